@@ -1,0 +1,5 @@
+pub mod Bytes
+pub mod Number
+pub mod Place
+pub mod Equal
+pub mod Promise

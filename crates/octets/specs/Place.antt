@@ -1,0 +1,30 @@
+-- Places in a list (docs/RULES.md, 2.4 and 2.5): a part of it, and what it holds after bytes were put there.
+use Prim.Native.Nat.{ℕ, _+_}
+use mathlib.Core.Bool.{Bool, true, false}
+use mathlib.Core.List.{List, _++_}
+use lib.ListN.{length, take, drop}
+use lib.Dec.{leb}
+
+-- the n elements from a on, or as many of them as there are
+abbrev pub part : List ℕ → ℕ → ℕ → List ℕ
+part l a n = take n (drop a l)
+
+-- d with s in place of what stands from a on
+unfoldable pub pasted : List ℕ → ℕ → List ℕ → List ℕ
+pasted d a s = take a d ++ (s ++ drop (a + length s) d)
+
+-- d beginning with s, the rest as found
+unfoldable pub begun : List ℕ → List ℕ → List ℕ
+begun s d = s ++ drop (length s) d
+
+-- whether n elements from a on lie in d
+abbrev pub fits : List ℕ → ℕ → ℕ → Bool
+fits d a n = leb (a + n) (length d)
+
+abbrev pub either : Bool → List ℕ → List ℕ → List ℕ
+either true x y = x
+either false x y = y
+
+-- d after s was put at a: pasted where all of s fits, else as found
+unfoldable pub placed : List ℕ → ℕ → List ℕ → List ℕ
+placed d a s = either (fits d a (length s)) (pasted d a s) d

@@ -1,0 +1,112 @@
+// Lists of bytes as the wire has them: numbers by their bytes, putting bytes at a place, comparing.
+ghost use mathlib.Core.Path.{_≡_};
+ghost use Prim.Native.Nat.{_+_, _<_, _≤_};
+ghost use lib.ListN.{length, getD};
+ghost use Rattle.octets.specs.Number.{le, unle};
+ghost use Rattle.octets.specs.Place.{part, pasted};
+ghost use Rattle.octets.specs.Equal.{same};
+ghost use Rattle.octets.specs.Promise.{PutPromise};
+
+// A number as two bytes, the low byte first.
+pub fn le2(n: u16) -> [u8; 2]
+    ensures { λ r. ⌜ r ≡ le 2 n ⌝ }
+{
+    [(n % 256) as u8, (n / 256 % 256) as u8]
+}
+
+// A number as four bytes, the low byte first.
+pub fn le4(n: u32) -> [u8; 4]
+    ensures { λ r. ⌜ r ≡ le 4 n ⌝ }
+{
+    [
+        (n % 256) as u8,
+        (n / 256 % 256) as u8,
+        (n / 256 / 256 % 256) as u8,
+        (n / 256 / 256 / 256 % 256) as u8,
+    ]
+}
+
+// The byte k places after `at`, 0 past the end: so every place can be asked.
+fn byte(s: &[u8], at: usize, k: usize) -> u32
+    ensures { λ r. ⌜ (r ≡ getD (now (s .entry)) (at + k) 0) × (r < 256) ⌝ }
+{
+    if s.len() <= at {
+        return 0;
+    }
+    if s.len() - at <= k {
+        return 0;
+    }
+    s[at + k] as u32
+}
+
+// The number that the two bytes from `at` on say, the low byte first; bytes past the end count as 0.
+pub fn load_le2(s: &[u8], at: usize) -> u16
+    ensures { λ r. ⌜ r ≡ unle (part (now (s .entry)) at 2) ⌝ }
+{
+    (byte(s, at, 0) + 256 * byte(s, at, 1)) as u16
+}
+
+// The number that the four bytes from `at` on say, the low byte first; bytes past the end count as 0.
+pub fn load_le4(s: &[u8], at: usize) -> u32
+    ensures { λ r. ⌜ r ≡ unle (part (now (s .entry)) at 4) ⌝ }
+{
+    byte(s, at, 0) + 256 * (byte(s, at, 1) + 256 * (byte(s, at, 2) + 256 * byte(s, at, 3)))
+}
+
+fn copy(dst: &mut [u8], at: usize, src: &[u8])
+    requires { ⌜ at + length (now src) ≤ length (now dst) ⌝ }
+    ensures { λ _. ⌜ now (dst .exit) ≡ pasted (now (dst .entry)) at (now (src .entry)) ⌝ }
+{
+    let mut i: usize = 0;
+    while i < src.len() {
+        dst[at + i] = src[i];
+        i += 1;
+    }
+}
+
+// Puts `src` into `dst` at `at` where all of it fits; else nothing changes and the answer is false.
+pub fn put(dst: &mut [u8], at: usize, src: &[u8]) -> bool
+    ensures { λ r. ⌜ PutPromise (now (dst .entry)) at (now (src .entry)) r (now (dst .exit)) ⌝ }
+{
+    if dst.len() < src.len() {
+        return false;
+    }
+    if dst.len() - src.len() < at {
+        return false;
+    }
+    copy(dst, at, src);
+    true
+}
+
+// Stores a number as two bytes at `at`, the low byte first, as `put` does.
+pub fn store_le2(dst: &mut [u8], at: usize, n: u16) -> bool
+    ensures { λ r. ⌜ PutPromise (now (dst .entry)) at (le 2 n) r (now (dst .exit)) ⌝ }
+{
+    let bytes = le2(n);
+    put(dst, at, &bytes)
+}
+
+// Stores a number as four bytes at `at`, the low byte first, as `put` does.
+pub fn store_le4(dst: &mut [u8], at: usize, n: u32) -> bool
+    ensures { λ r. ⌜ PutPromise (now (dst .entry)) at (le 4 n) r (now (dst .exit)) ⌝ }
+{
+    let bytes = le4(n);
+    put(dst, at, &bytes)
+}
+
+// Whether the two are equal. Of two of one length every byte is looked at, wherever the first difference is: a code that is
+// compared so tells nothing by the time it takes.
+pub fn same(a: &[u8], b: &[u8]) -> bool
+    ensures { λ r. ⌜ r ≡ same (now (a .entry)) (now (b .entry)) ⌝ }
+{
+    if a.len() != b.len() {
+        return false;
+    }
+    let mut d: u8 = 0;
+    let mut i: usize = 0;
+    while i < a.len() {
+        d |= a[i] ^ b[i];
+        i += 1;
+    }
+    d == 0
+}

@@ -1,0 +1,53 @@
+-- Laws of the order of refusals. A proof over a chain of tests cites these and never opens `need` or `andThen`.
+use Prim.Native.Nat.{ℕ}
+use mathlib.Core.Bool.{Bool, true, false, false≢true, true≢false}
+use mathlib.Core.Path.{_≡_, refl, sym, _∙_, ap}
+use Rattle.refusal.specs.Order.{Res, refuse, accept, need, andThen}
+
+module _ {A : Type 0} where
+  -- a refusal is no acceptance
+  pub refuse≢accept : (n v : ℕ) (a : A) → refuse n v ≡ accept a → ⊥
+  refuse≢accept n v a e = let z : _≡_ {A = Bool} false true = ap accepted e in false≢true z
+    where
+      accepted : Res A → Bool
+      accepted (refuse m w) = false
+      accepted (accept b) = true
+
+  -- what was accepted is one thing
+  pub accept-inj : (a b : A) → accept a ≡ accept b → a ≡ b
+  accept-inj a b e = cc
+
+  -- a test that passes leaves what stands behind it
+  pub pass : (b : Bool) (n v : ℕ) (r : Res A) {x : Res A} → b ≡ true → r ≡ x → need b n v r ≡ x
+  unfolding need
+  pass true n v r e h = h
+  pass false n v r e h = absurd (false≢true e)
+
+  -- a test that fails is the answer
+  pub need-no : (b : Bool) (n v : ℕ) (r : Res A) → b ≡ false → need b n v r ≡ refuse n v
+  unfolding need
+  need-no true n v r e = absurd (true≢false e)
+  need-no false n v r e = refl
+
+  -- where a chain accepts, its first test passed and the rest accepts
+  pub need-inv : (b : Bool) (n v : ℕ) (r : Res A) {a : A} → need b n v r ≡ accept a → (b ≡ true) × (r ≡ accept a)
+  unfolding need
+  need-inv true n v r e = (refl, e)
+  need-inv false n v r e = absurd (refuse≢accept n v _ e)
+
+module _ {A B : Type 0} where
+  -- what follows a refusal is not reached
+  pub then-refuse : (r : Res A) (f : A → Res B) (n v : ℕ) → r ≡ refuse n v → andThen r f ≡ refuse n v
+  unfolding andThen
+  then-refuse r f n v e = ap (λ (x : Res A). andThen x f) e
+
+  -- what follows an acceptance is given what was found
+  pub then-accept : (r : Res A) (f : A → Res B) (a : A) → r ≡ accept a → andThen r f ≡ f a
+  unfolding andThen
+  then-accept r f a e = ap (λ (x : Res A). andThen x f) e
+
+  -- where two stages accept, the first did, and the second did with what the first found
+  pub then-inv : (r : Res A) (f : A → Res B) (b : B) → andThen r f ≡ accept b → (a : A) × (r ≡ accept a) × (f a ≡ accept b)
+  unfolding andThen
+  then-inv (refuse n v) f b e = absurd (refuse≢accept n v b e)
+  then-inv (accept a) f b e = (a, refl, e)

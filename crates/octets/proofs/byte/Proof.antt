@@ -1,3 +1,4 @@
+-- `byte` keeps its promise: past the end the list has 0, and what is read is a byte.
 use Prim.Native.Nat.{_+_, _≤_}
 use lib.ListN.{length}
 use mathlib.Core.Path.{_≡_, refl, sym, _∙_, ap}

@@ -1,3 +1,4 @@
+-- `copy` keeps its promise: after i turns the first i bytes of the source are pasted.
 use mathlib.Core.Path.{_≡_, refl, sym, _∙_, ap}
 use Prim.Native.Nat.{_≤_, _-_}
 use native.Mathlib.Omega.{arith}

@@ -1,3 +1,4 @@
+-- `load_le4` keeps its promise: the four bytes are the number, by the law over the width.
 use native.Mathlib.Omega.{arith}
 use Rattle.octets.proofs.Number.{unle-part}
 use borrow.Author.Needs.{needs}

@@ -1,3 +1,4 @@
+-- `put` keeps its promise: each refusal is a length that does not fit.
 use native.Mathlib.Omega.{arith}
 use mathlib.Core.Path.{_∙_, ap}
 use lib.ListN.{length}

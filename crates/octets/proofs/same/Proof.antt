@@ -1,3 +1,4 @@
+-- `same` keeps its promise: after i turns the sum of differences is zero exactly where the first i bytes are equal.
 use mathlib.Core.Path.{ap₂}
 use lib.Seq.{take-all}
 use mathlib.Core.Path.{_≡_, refl, sym, _∙_, ap}

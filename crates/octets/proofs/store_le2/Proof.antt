@@ -1,3 +1,4 @@
+-- `store_le2` keeps its promise: `put`'s, for the number's bytes.
 use Rattle.octets.specs.Number.{le}
 use Rattle.octets.proofs.Place.{put-of}
 use borrow.Author.Needs.{needs}

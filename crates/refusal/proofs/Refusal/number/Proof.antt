@@ -1,3 +1,4 @@
+-- `Refusal::number` keeps its promise: an arm for each case, and each names its number.
 use mathlib.Core.Path.{sym, ap, _∙_}
 use Rattle.refusal.specs.Table.{numberOf}
 use borrow.Author.Needs.{needs}

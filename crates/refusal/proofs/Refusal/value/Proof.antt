@@ -1,3 +1,4 @@
+-- `Refusal::value` keeps its promise: the last arm is reached by the cases that carry nothing.
 use mathlib.Core.Path.{sym, ap, _∙_}
 use Rattle.refusal.specs.Table.{valueOf}
 use Rattle.refusal.proofs.Numbers.{rest, uncarried}

@@ -1,0 +1,47 @@
+-- `encrypt_block` keeps its promise: after n turns the state has been through n rounds.
+use Prim.Native.Nat.{_≤_, _-_}
+use native.Mathlib.Omega.{arith}
+use mathlib.Core.Path.{_≡_, refl}
+use borrow.Author.Needs.{needs}
+use Rattle.aes.specs.Cipher.{rounds}
+use Rattle.aes.specs.Schedule.{keysOf}
+use Rattle.aes.proofs.Rounds.{round-turn, cipher-end}
+use Rattle.aes.proofs.Aes128.encrypt_block.Statement.{statement}
+use Rattle.aes.proofs.Aes128.encrypt_block.Tie as tie
+
+abbrev Inv-loop : tie.InvT-loop
+Inv-loop w t₀ n₀ t n = (n ≤ 9) × (t ≡ rounds w n t₀)
+
+abbrev μ-loop : tie.MeasureT-loop
+μ-loop w t₀ n₀ t n = 9 - n
+
+loop-holds : tie.Need-loop-holds Inv-loop μ-loop
+unfolding rounds
+loop-holds c = (search needs, refl)
+
+loop-again : tie.Need-loop-again Inv-loop μ-loop
+loop-again c = (search needs, round-turn _ _ _ _ _ _ _ _ (c .before .before .before .before .before .before .loop .inv .1) (c .before .before .before .sub-bytes .ensures) (c .before .before .shift-rows .ensures) (c .before .mix-columns .ensures) (c .add-round-key2 .ensures))
+
+returns : tie.Need-returns Inv-loop μ-loop
+unfolding keysOf
+returns c = cipher-end _ _ _ _ _ _ _ _ (omega arith) (c .before .before .before .before .before .before .add-round-key .ensures) (c .before .before .before .before .before .loop .inv .1) (c .before .before .sub-bytes2 .ensures) (c .before .shift-rows2 .ensures) (c .add-round-key3 .ensures)
+
+pub encrypt-block-spec : {M : Type 1} → statement M
+encrypt-block-spec =
+    tie.close
+    (tie.spec
+    Inv-loop
+    μ-loop
+    (λ c κs. search needs)
+    loop-holds
+    (λ c. search needs)
+    (λ c κs. search needs)
+    (λ c κs. search needs)
+    (λ c κs. search needs)
+    (λ c κs. search needs)
+    (λ c. search needs)
+    loop-again
+    (λ c κs. search needs)
+    (λ c κs. search needs)
+    (λ c κs. search needs)
+    returns)

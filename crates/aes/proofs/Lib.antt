@@ -1,0 +1,10 @@
+pub mod Xor
+pub mod Linear
+pub mod ByBits
+pub mod Mix
+pub mod Keys
+pub mod KeyBytes
+pub mod Rounds
+pub mod Block
+pub mod Inverse
+pub mod Only

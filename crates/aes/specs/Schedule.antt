@@ -1,0 +1,8 @@
+-- What an expanded key stands for.
+use Prim.Native.Nat.{ℕ}
+use mathlib.Core.List.{List}
+use Rattle.aes.specs.declared.Aes128.{Aes128}
+
+-- its eleven round keys one after the other
+unfoldable pub keysOf : Aes128 → List ℕ
+keysOf a = a .keys

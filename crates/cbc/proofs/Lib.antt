@@ -1,0 +1,6 @@
+pub mod Run
+pub mod Read
+pub mod Blocks
+pub mod Inverse
+pub mod Promise
+pub mod Only

@@ -1,0 +1,60 @@
+-- `decrypt_blocks` keeps its promise: what is done and the run over the rest are always the whole run.
+use Prim.Native.Nat.{_≤_, _-_, _+_, _*_, _/_, ℕ}
+use native.Mathlib.Omega.{arith}
+use mathlib.Core.Path.{_≡_, refl, sym, _∙_, ap}
+use mathlib.Core.List.{List, _++_}
+use borrow.Author.Needs.{needs}
+use lib.ListN.{take, drop, length}
+use Rattle.aes.specs.Cipher.{cipher, invCipher}
+use Rattle.aes.specs.Schedule.{keysOf}
+use Rattle.cbc.specs.Cbc.{xorBlock}
+use Rattle.cbc.proofs.Run.{run, run-start, run-turn, run-end, opened, kept, opened-length, decrypt-run}
+use Rattle.cbc.proofs.decrypt_blocks.Statement.{statement}
+use Rattle.cbc.proofs.decrypt_blocks.Tie as tie
+
+abbrev Inv-loop : tie.InvT-loop
+Inv-loop a s₀ n v₀ i₀ s v i = (i ≤ n) × (16 * n ≡ length s) × (take (16 * i) s ++ run (opened (keysOf a)) kept v (n - i) (drop (16 * i) s) ≡ run (opened (keysOf a)) kept v₀ n s₀)
+
+abbrev μ-loop : tie.MeasureT-loop
+μ-loop a s₀ n v₀ i₀ s v i = n - i
+
+loop-holds : tie.Need-loop-holds Inv-loop μ-loop
+loop-holds c = (search needs, omega arith, run-start _ _ _ _ _)
+
+loop-again : tie.Need-loop-again Inv-loop μ-loop
+loop-again c = let w : List ℕ = keysOf (c .before .before .before .before .before .before .before .before .before .before .before .before .args .a) in
+    let l = c .before .before .before .before .before .before .before .before .before .before .loop in
+    let h = c .before .before .before .before .before .xor-block .ensures ∙ ap (λ (y : List ℕ). xorBlock y (l .v)) (c .before .before .before .before .before .before .decrypt-block .ensures) in
+    let t = run-turn (opened w) kept (l .i) _ (l .v) (l .s) _ _ _ _ _ _ (omega arith) (l .inv .1) (opened-length w) (l .inv .2)
+    (c .before .before .before .before .before .before .before .read-block .ensures) h refl (c .before .before .put .ensures) in
+    (omega arith, t .0, t .1)
+
+same-length : tie.Need-same-length Inv-loop μ-loop
+same-length c = omega arith
+
+returns : tie.Need-returns Inv-loop μ-loop
+returns c =
+    let a = c .before .before .before .args in
+    let w : List ℕ = keysOf (a .a) in
+    let l = c .before .loop in
+    run-end (opened w) kept (l .i) (length (a .s .now) / 16) _ _ _ (omega arith) (l .inv .1) (l .inv .2) ∙ sym (decrypt-run w _ _ _)
+
+pub decrypt-blocks-spec : {M : Type 1} → statement M
+decrypt-blocks-spec =
+    tie.close
+    (tie.spec
+    Inv-loop
+    μ-loop
+    loop-holds
+    (λ c. search needs)
+    (λ c κs. search needs)
+    (λ c κs. search needs)
+    (λ c κs. search needs)
+    (λ c. search needs)
+    (λ c. search needs)
+    (λ c κs. search needs)
+    (λ c. search needs)
+    (λ c. search needs)
+    loop-again
+    same-length
+    returns)

@@ -1,0 +1,115 @@
+// Cipher block chaining with AES-128 (SP 800-38A), in place.
+ghost use mathlib.Core.Path.{_≡_};
+ghost use Prim.Native.Nat.{_+_, _/_, _%_, _≤_};
+ghost use lib.ListN.{length};
+ghost use Rattle.octets.specs.Place.{part};
+ghost use Rattle.aes.specs.Schedule.{keysOf};
+ghost use Rattle.cbc.specs.Cbc.{xorBlock, encryptBlocks, decryptBlocks, cbcEncrypt, cbcDecrypt};
+ghost use Rattle.cbc.specs.Promise.{CbcPromise};
+use aes::Aes128;
+use refusal::Refusal;
+
+pub enum Ciphered {
+    Done,
+    Refused(Refusal),
+}
+
+fn xor_block(a: [u8; 16], b: [u8; 16]) -> [u8; 16]
+    ensures { λ r. ⌜ r ≡ xorBlock a b ⌝ }
+{
+    [
+        a[0] ^ b[0],
+        a[1] ^ b[1],
+        a[2] ^ b[2],
+        a[3] ^ b[3],
+        a[4] ^ b[4],
+        a[5] ^ b[5],
+        a[6] ^ b[6],
+        a[7] ^ b[7],
+        a[8] ^ b[8],
+        a[9] ^ b[9],
+        a[10] ^ b[10],
+        a[11] ^ b[11],
+        a[12] ^ b[12],
+        a[13] ^ b[13],
+        a[14] ^ b[14],
+        a[15] ^ b[15],
+    ]
+}
+
+fn read_block(s: &[u8], at: usize) -> [u8; 16]
+    requires { ⌜ at + 16 ≤ length (now s) ⌝ }
+    ensures { λ r. ⌜ r ≡ part (now (s .entry)) at 16 ⌝ }
+{
+    [
+        s[at],
+        s[at + 1],
+        s[at + 2],
+        s[at + 3],
+        s[at + 4],
+        s[at + 5],
+        s[at + 6],
+        s[at + 7],
+        s[at + 8],
+        s[at + 9],
+        s[at + 10],
+        s[at + 11],
+        s[at + 12],
+        s[at + 13],
+        s[at + 14],
+        s[at + 15],
+    ]
+}
+
+fn encrypt_blocks(a: Aes128, iv: [u8; 16], s: &mut [u8])
+    requires { ⌜ length (now s) % 16 ≡ 0 ⌝ }
+    ensures { λ _. ⌜ now (s .exit) ≡ encryptBlocks (keysOf a) iv (length (now (s .entry)) / 16) (now (s .entry)) ⌝ }
+{
+    let n = s.len() / 16;
+    let mut v = iv;
+    let mut i: usize = 0;
+    while i < n {
+        let b = read_block(s, 16 * i);
+        v = a.encrypt_block(xor_block(b, v));
+        octets::put(s, 16 * i, &v);
+        i += 1;
+    }
+}
+
+fn decrypt_blocks(a: Aes128, iv: [u8; 16], s: &mut [u8])
+    requires { ⌜ length (now s) % 16 ≡ 0 ⌝ }
+    ensures { λ _. ⌜ now (s .exit) ≡ decryptBlocks (keysOf a) iv (length (now (s .entry)) / 16) (now (s .entry)) ⌝ }
+{
+    let n = s.len() / 16;
+    let mut v = iv;
+    let mut i: usize = 0;
+    while i < n {
+        let b = read_block(s, 16 * i);
+        let p = xor_block(a.decrypt_block(b), v);
+        octets::put(s, 16 * i, &p);
+        v = b;
+        i += 1;
+    }
+}
+
+// Encrypts the lent bytes in their place.
+pub fn cbc_encrypt(key: [u8; 16], iv: [u8; 16], s: &mut [u8]) -> Ciphered
+    ensures { λ r. ⌜ CbcPromise (now (s .entry)) (cbcEncrypt key iv (now (s .entry))) r (now (s .exit)) ⌝ }
+{
+    if s.len() % 16 != 0 {
+        return Ciphered::Refused(Refusal::NotWholeBlocks);
+    }
+    encrypt_blocks(Aes128::new(key), iv, s);
+    Ciphered::Done
+}
+
+// Decrypts the lent bytes in their place.
+pub fn cbc_decrypt(key: [u8; 16], iv: [u8; 16], s: &mut [u8]) -> Ciphered
+    ensures { λ r. ⌜ CbcPromise (now (s .entry)) (cbcDecrypt key iv (now (s .entry))) r (now (s .exit)) ⌝ }
+{
+    if s.len() % 16 != 0 {
+        return Ciphered::Refused(Refusal::NotWholeBlocks);
+    }
+    decrypt_blocks(Aes128::new(key), iv, s);
+    Ciphered::Done
+}

@@ -1,0 +1,3 @@
+pub mod Keyed
+pub mod Counted
+pub mod Nested

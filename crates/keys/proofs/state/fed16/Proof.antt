@@ -1,0 +1,17 @@
+-- `fed16` keeps its promise: one piece of sixteen bytes goes to the end.
+use lib.ListN.{length}
+use mathlib.Core.Path.{_≡_}
+use native.Mathlib.Omega.{arith}
+use Rattle.keys.proofs.Running.{given-more}
+use borrow.Author.Needs.{needs}
+use Rattle.keys.proofs.state.fed16.Statement.{statement}
+use Rattle.keys.proofs.state.fed16.Tie as tie
+
+returns : tie.Need-returns
+returns c =
+    let a = c .before .before .before .args in
+    let e : length (a .t2) ≡ 16 = search needs in
+    λ k l n g h. given-more k l (a .t2) n 16 (a .m) _ g (c .before .feed .ensures) (omega arith) e (omega arith)
+
+pub fed16-spec : {M : Type 1} → statement M
+fed16-spec = tie.close (tie.spec (λ c. search needs) (λ c κs. search needs) returns)

@@ -1,0 +1,44 @@
+-- `fed_role` keeps its promise: two pieces, whose bytes are N by `role-text`.
+use lib.Seq.{length-take-le}
+use lib.ListN.{length, take}
+use mathlib.Core.Path.{_≡_, refl, sym}
+use mathlib.Core.List.{[], _∷_}
+use Prim.Native.Nat.{_+_, _≤_}
+use native.Mathlib.Omega.{arith}
+use Rattle.keys.proofs.Running.{given-more}
+use Rattle.keys.proofs.Named.{given-role}
+use borrow.Author.Needs.{needs}
+use Rattle.keys.proofs.state.fed_role.Statement.{statement}
+use Rattle.keys.proofs.state.fed_role.Tie as tie
+
+slice-aggregate-feed-2 : tie.Need-slice-aggregate-feed-2
+slice-aggregate-feed-2 c =
+    let a = c .before .before .before .before .args in
+    let e : length (a .t3) ≡ 16 = search needs in
+    let h : c .before .before .before .counted .result ≤ length (a .t3) = omega arith in
+    sym (length-take-le (c .before .before .before .counted .result) (a .t3) h)
+
+returns : tie.Need-returns
+returns c =
+    let a = c .before .before .before .before .before .before .args in
+    let m = c .before .before .before .before .before .counted .result in
+    let e : length (a .t3) ≡ 16 = search needs in
+    let h : m ≤ length (a .t3) = omega arith in
+    λ k l n g b.
+    given-role k l (a .t3) (a .role) (a .len) m n _ e (c .before .before .before .before .before .counted .ensures)
+    (given-more k _ (take m (a .t3)) (n + 2) m _ _
+    (given-more k l (a .role ∷ m ∷ []) n 2 (a .m) _ g (c .before .before .before .feed .ensures) (omega arith) refl (omega arith))
+    (c .before .feed2 .ensures) (omega arith) (length-take-le m (a .t3) h) (omega arith))
+
+pub fed-role-spec : {M : Type 1} → statement M
+fed-role-spec =
+    tie.close
+    (tie.spec
+    (λ c κs. search needs)
+    (λ c. search needs)
+    (λ c κs. search needs)
+    (λ c. search needs)
+    (λ c. search needs)
+    slice-aggregate-feed-2
+    (λ c κs. search needs)
+    returns)

@@ -1,0 +1,27 @@
+-- `message_3_code` keeps its promise: a line for each piece, then the end.
+use Rattle.keys.specs.Codes.{text3}
+use native.Mathlib.Omega.{arith}
+use Rattle.keys.proofs.Running.{given-code}
+use borrow.Author.Needs.{needs}
+use Rattle.keys.proofs.state.message_3_code.Statement.{statement}
+use Rattle.keys.proofs.state.message_3_code.Tie as tie
+
+returns : tie.Need-returns
+unfolding text3
+returns c =
+    let k = c .before .before .before .before .before .before .args .password .now in
+    let g₁ = c .before .before .before .fed16 .ensures k _ _ (c .before .before .before .before .begun .ensures) (omega arith) in
+    let g₂ = c .before .before .fed-id .ensures k _ _ g₁ (omega arith) in
+    let g₃ = c .before .fed-role .ensures k _ _ g₂ (omega arith) in
+    given-code k _ _ _ _ g₃ (c .finalize .ensures) (omega arith)
+
+pub message-3-code-spec : {M : Type 1} → statement M
+message-3-code-spec =
+    tie.close
+    (tie.spec
+    (λ c κs. search needs)
+    (λ c κs. search needs)
+    (λ c κs. search needs)
+    (λ c κs. search needs)
+    (λ c κs. search needs)
+    returns)

@@ -1,0 +1,4 @@
+pub mod Codes
+pub mod Chosen
+pub mod Running
+pub mod Keys

@@ -1,0 +1,162 @@
+// The codes by which console and system show that they know the password, and the key from which a session's keys come.
+// The name is 16 bytes and a length; a length over 16 counts as 16.
+ghost use mathlib.Core.Path.{_≡_};
+ghost use mathlib.Core.List.{List, [], _++_};
+ghost use Prim.Native.Nat.{ℕ, _+_, _≤_, min};
+ghost use denote.Ref.{ptr};
+ghost use lib.Dec.{leb};
+ghost use lib.ListN.{length, take};
+ghost use Rattle.octets.specs.Number.{le};
+ghost use Rattle.sha1.specs.Answers.{limit, HashedPromise};
+ghost use Rattle.sha1.specs.Mac.{hmacSha1, hmacBlocks};
+ghost use Rattle.keys.specs.Chosen.{chosen, absent, keyOf};
+ghost use Rattle.keys.specs.Codes.{roleName, text2, textSik, text3, text4, value4};
+ghost use Rattle.keys.specs.Running.{Given};
+use octets::le4;
+use sha1::Hashed;
+use sha1::Sha1Hmac;
+
+// The key that makes the SIK: the Kg if one was lent, else the password. No other place chooses between the two.
+pub fn kg<'a>(kg: &'a [u8], password: &'a [u8]) -> &'a [u8]
+    ensures { λ r. ⌜ (now r ≡ keyOf (now (kg .entry)) (now (password .entry))) × (ptr r ≡ chosen (absent (now (kg .entry))) (ptr (kg .entry)) (ptr (password .entry))) ⌝ }
+{
+    if kg.len() == 0 { password } else { kg }
+}
+
+// An HMAC under `key` before any byte.
+fn begun(key: &[u8]) -> Sha1Hmac
+    ensures { λ r. ⌜ Given (now (key .entry)) [] 0 r ⌝ }
+{
+    let b = Sha1Hmac::new(key);
+    b.mac
+}
+
+// An HMAC under a SIK before any byte.
+fn begun_sik(sik: [u8; 20]) -> Sha1Hmac
+    ensures { λ r. ⌜ (Given sik [] 0 r) × (length sik ≡ 20) ⌝ }
+{
+    begun(&sik)
+}
+
+// The HMAC after sixteen bytes more.
+fn fed16(m: Sha1Hmac, s: [u8; 16]) -> Sha1Hmac
+    ensures { λ r. ⌜ ((k l : List ℕ) (n : ℕ) → Given k l n m → n ≤ 1000 → Given k (l ++ s) (n + 16) r) ⌝ }
+{
+    let f = m.feed(&s);
+    f.mac
+}
+
+// The HMAC after a session id.
+fn fed_id(m: Sha1Hmac, id: u32) -> Sha1Hmac
+    ensures { λ r. ⌜ ((k l : List ℕ) (n : ℕ) → Given k l n m → n ≤ 1000 → Given k (l ++ le 4 id) (n + 4) r) ⌝ }
+{
+    let f = m.feed(&le4(id));
+    f.mac
+}
+
+// How many bytes of a name's sixteen count.
+fn counted(len: usize) -> u8
+    ensures { λ r. ⌜ r ≡ min len 16 ⌝ }
+{
+    if len < 16 {
+        return len as u8;
+    }
+    16
+}
+
+// The HMAC after role byte, name length and name.
+fn fed_role(m: Sha1Hmac, role: u8, name: [u8; 16], len: usize) -> Sha1Hmac
+    ensures { λ r. ⌜ ((k l : List ℕ) (n : ℕ) → Given k l n m → n ≤ 1000 → Given k (l ++ roleName role (take len name)) (n + (2 + min len 16)) r) ⌝ }
+{
+    let n = counted(len);
+    let head = [role, n];
+    let a = m.feed(&head);
+    let end = n as usize;
+    let b = a.mac.feed(&name[..end]);
+    b.mac
+}
+
+// Message 2's code: that the system knows the password.
+pub fn message_2_code(
+    password: &[u8],
+    sidm: u32,
+    sidc: u32,
+    rm: [u8; 16],
+    rc: [u8; 16],
+    guid: [u8; 16],
+    role: u8,
+    name: [u8; 16],
+    len: usize,
+) -> Hashed
+    ensures { λ r. ⌜ HashedPromise (leb (length (now (password .entry))) limit)
+        (hmacSha1 (now (password .entry)) (text2 sidm sidc rm rc guid (roleName role (take len name))))
+        (hmacBlocks (now (password .entry)) (text2 sidm sidc rm rc guid (roleName role (take len name)))) r ⌝ }
+{
+    let a = fed_id(begun(password), sidm);
+    let b = fed_id(a, sidc);
+    let c = fed16(b, rm);
+    let d = fed16(c, rc);
+    let e = fed16(d, guid);
+    fed_role(e, role, name, len).finalize()
+}
+
+// The key from which the session's keys come.
+pub fn sik<'a>(
+    key: &'a [u8],
+    password: &'a [u8],
+    rm: [u8; 16],
+    rc: [u8; 16],
+    role: u8,
+    name: [u8; 16],
+    len: usize,
+) -> Hashed
+    ensures { λ r. ⌜ HashedPromise (leb (length (keyOf (now (key .entry)) (now (password .entry)))) limit)
+        (hmacSha1 (keyOf (now (key .entry)) (now (password .entry))) (textSik rm rc (roleName role (take len name))))
+        (hmacBlocks (keyOf (now (key .entry)) (now (password .entry))) (textSik rm rc (roleName role (take len name)))) r ⌝ }
+{
+    let a = fed16(begun(kg(key, password)), rm);
+    let b = fed16(a, rc);
+    fed_role(b, role, name, len).finalize()
+}
+
+// Message 3's code: that the console knows the password.
+pub fn message_3_code(
+    password: &[u8],
+    rc: [u8; 16],
+    sidm: u32,
+    role: u8,
+    name: [u8; 16],
+    len: usize,
+) -> Hashed
+    ensures { λ r. ⌜ HashedPromise (leb (length (now (password .entry))) limit)
+        (hmacSha1 (now (password .entry)) (text3 rc sidm (roleName role (take len name))))
+        (hmacBlocks (now (password .entry)) (text3 rc sidm (roleName role (take len name)))) r ⌝ }
+{
+    let a = fed16(begun(password), rc);
+    let b = fed_id(a, sidm);
+    fed_role(b, role, name, len).finalize()
+}
+
+// Message 4's value: that the system made the same SIK.
+pub fn message_4_value(sik: [u8; 20], rm: [u8; 16], sidc: u32, guid: [u8; 16]) -> [u8; 12]
+    ensures { λ r. ⌜ r ≡ value4 hmacSha1 12 sik rm sidc guid ⌝ }
+{
+    let a = fed16(begun_sik(sik), rm);
+    let b = fed_id(a, sidc);
+    let done = fed16(b, guid).finalize();
+    let d = done.digest;
+    [
+        d[0],
+        d[1],
+        d[2],
+        d[3],
+        d[4],
+        d[5],
+        d[6],
+        d[7],
+        d[8],
+        d[9],
+        d[10],
+        d[11],
+    ]
+}

@@ -1,0 +1,10 @@
+pub mod Tests
+pub mod Blocks
+pub mod Names
+pub mod Writing
+pub mod Reading
+pub mod Opening
+pub mod Codes
+pub mod Only
+pub mod Inverse
+pub mod Answered

@@ -1,0 +1,21 @@
+-- `OpenSessionResponse::from_data` keeps its promise: the tests, then the blocks.
+use Rattle.messages.proofs.Opening.{response-size, response-no, response-on}
+use borrow.Author.Needs.{needs}
+use Rattle.messages.proofs.open_session.OpenSessionResponse.from_data.Statement.{statement}
+use Rattle.messages.proofs.open_session.OpenSessionResponse.from_data.Tie as tie
+
+fields-requires : tie.Need-fields-requires
+fields-requires c κs = response-size _ _ (c .before .before .checked .ensures) (c .enum-told .given .1)
+
+returns : tie.Need-returns
+returns c = response-no _ _ (c .before .before .before .checked .ensures) _ (c .before .r .given .1)
+
+returns-2 : tie.Need-returns-2
+returns-2 c =
+    response-on _ _ (c .before .before .before .checked .ensures) (c .before .enum-told .given .1) _
+    (c .fields .ensures)
+
+pub from-data-spec : {M : Type 1} → statement M
+from-data-spec =
+    tie.close
+    (tie.spec (λ c κs. search needs) (λ c. search needs) (λ c. search needs) fields-requires returns returns-2)

@@ -1,0 +1,26 @@
+-- `refused` keeps its promise: named in every message, named here, or unnamed.
+use mathlib.Core.Path.{refl, sym, _∙_}
+use Rattle.messages.proofs.Tests.{status-common, status-own, status-none}
+use borrow.Author.Needs.{needs}
+use Rattle.messages.proofs.rakp.refused.Statement.{statement}
+use Rattle.messages.proofs.rakp.refused.Tie as tie
+
+returns : tie.Need-returns
+returns c =
+    let a = c .before .before .before .before .args in
+    (status-common (a .names .now) (a .status) (sym (c .if1 .taken) ∙ c .before .listed .ensures), refl)
+
+returns-2 : tie.Need-returns-2
+returns-2 c =
+    let a = c .before .before .before .before .before .before .args in
+    (status-own (a .names .now) (a .status) (sym (c .before .before .if1 .left) ∙ c .before .before .before .listed .ensures) (sym (c .if2 .taken) ∙ c .before .listed2 .ensures), refl)
+
+returns-3 : tie.Need-returns-3
+returns-3 c =
+    let a = c .before .before .before .before .before .before .args in
+    (status-none (a .names .now) (a .status) (sym (c .before .before .if1 .left) ∙ c .before .before .before .listed .ensures) (sym (c .if2 .left) ∙ c .before .listed2 .ensures), refl)
+
+pub refused-spec : {M : Type 1} → statement M
+refused-spec =
+    tie.close
+    (tie.spec (λ c. search needs) (λ c κs. search needs) returns (λ c κs. search needs) returns-2 returns-3)

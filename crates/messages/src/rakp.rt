@@ -1,0 +1,98 @@
+// What the messages have in common: their answers, statuses with a name, the first eight bytes.
+ghost use mathlib.Core.Path.{_≡_};
+ghost use Prim.Native.Nat.{_+_, _<_, _≤_};
+ghost use mathlib.Core.List.{_∷_};
+ghost use lib.ListN.{length};
+ghost use Rattle.refusal.specs.Table.{numberOf, valueOf, among};
+ghost use Rattle.octets.specs.Number.{le};
+ghost use Rattle.octets.specs.Place.{part};
+ghost use Rattle.messages.specs.Status.{statusNumber};
+ghost use Rattle.messages.specs.Rakp.{checked};
+ghost use Rattle.messages.specs.Answers.{tested};
+use refusal::Refusal;
+
+// The outcome of a row of tests.
+pub enum Test {
+    Passed,
+    Refused(Refusal),
+}
+
+// A writer's answer: how many bytes it wrote, or why none.
+pub enum Written {
+    Bytes(usize),
+    Refused(Refusal),
+}
+
+// A part of the message that was lent: where it starts and how many bytes it has.
+pub struct Place {
+    pub at: usize,
+    pub len: usize,
+}
+
+// Statuses that have a name in every message.
+const COMMON: [u8; 3] = [0x01, 0x02, 0x12];
+
+fn listed(b: u8, list: &[u8]) -> bool
+    ensures { λ r. ⌜ r ≡ among b (now (list .entry)) ⌝ }
+{
+    let mut i: usize = 0;
+    while i < list.len() {
+        if list[i] == b {
+            return true;
+        }
+        i += 1;
+    }
+    false
+}
+
+// The refusal for a status that is not zero, in a message that has names for `names` too.
+pub(crate) fn refused(status: u8, names: &[u8]) -> Refusal
+    ensures { λ r. ⌜ (numberOf r ≡ statusNumber (now (names .entry)) status) × (valueOf r ≡ status) ⌝ }
+{
+    if listed(status, &COMMON) {
+        return Refusal::NamedStatus(status);
+    }
+    if listed(status, names) {
+        return Refusal::NamedStatus(status);
+    }
+    Refusal::UnnamedStatus(status)
+}
+
+// The tests of messages 2 and 4 on what stands in front: the length, the status, the fixed part's length, the id.
+pub(crate) fn checked(message: &[u8], at: usize, names: &[u8], fixed: usize, zero: Refusal) -> Test
+    requires { ⌜ at < 4 ⌝ }
+    ensures { λ r. ⌜ tested r ≡ checked at (now (names .entry)) fixed (numberOf zero) (valueOf zero) (now (message .entry)) ⌝ }
+{
+    if message.len() < 4 {
+        return Test::Refused(Refusal::NotEnoughData);
+    }
+    let status = message[at];
+    if status != 0 {
+        return Test::Refused(refused(status, names));
+    }
+    if message.len() < fixed {
+        return Test::Refused(Refusal::NotEnoughData);
+    }
+    if octets::load_le4(message, 4) == 0 {
+        return Test::Refused(zero);
+    }
+    Test::Passed
+}
+
+// Four bytes and an id, as every message that we write begins.
+pub(crate) fn begin(a: u8, b: u8, c: u8, d: u8, id: u32) -> [u8; 8]
+    ensures { λ r. ⌜ r ≡ a ∷ b ∷ c ∷ d ∷ le 4 id ⌝ }
+{
+    let n = octets::le4(id);
+    [a, b, c, d, n[0], n[1], n[2], n[3]]
+}
+
+// Sixteen bytes of a message.
+pub(crate) fn sixteen(message: &[u8], at: usize) -> [u8; 16]
+    requires { ⌜ at + 16 ≤ length (now message) ⌝ }
+    ensures { λ r. ⌜ r ≡ part (now (message .entry)) at 16 ⌝ }
+{
+    let mut bytes = [0u8; 16];
+    octets::put(&mut bytes, 0, &message[at..at + 16]);
+    bytes
+}

@@ -1,0 +1,123 @@
+// Message 1: the console's random number, the role asked for, the user's name.
+ghost use mathlib.Core.Path.{_≡_};
+ghost use Prim.Native.Nat.{_+_, _≤_};
+ghost use mathlib.Core.List.{_++_};
+ghost use lib.ListN.{length, take};
+ghost use Rattle.octets.specs.Place.{begun};
+ghost use Rattle.messages.specs.Name.{allowed, nameOf, usernameOf};
+ghost use Rattle.messages.specs.Rakp.{message1};
+ghost use Rattle.messages.specs.Promises.{NamePromise, WritePromise};
+use crate::rakp;
+use crate::rakp::Test;
+use crate::rakp::Written;
+use refusal::Refusal;
+
+// A name: its first `len` bytes, or all sixteen where `len` is more.
+pub struct Username {
+    pub bytes: [u8; 16],
+    pub len: usize,
+}
+
+pub struct UsernameAnswer {
+    pub answer: Test,
+    pub username: Username,
+}
+
+// Whether every byte is ASCII and none is zero.
+fn allowed(name: &[u8]) -> bool
+    ensures { λ r. ⌜ r ≡ allowed (now (name .entry)) ⌝ }
+{
+    let mut i: usize = 0;
+    while i < name.len() {
+        if name[i] == 0 {
+            return false;
+        }
+        if 127 < name[i] {
+            return false;
+        }
+        i += 1;
+    }
+    true
+}
+
+impl Username {
+    // The name that a user has typed; only its first sixteen bytes count.
+    pub fn new(name: &[u8]) -> UsernameAnswer
+        ensures { λ r. ⌜ NamePromise (usernameOf (now (name .entry))) r ⌝ }
+    {
+        if name.len() < 16 {
+            return first(name, name.len());
+        }
+        first(name, 16)
+    }
+}
+
+// How many bytes the name has.
+fn name_len(u: Username) -> usize
+    ensures { λ r. ⌜ (r ≡ length (nameOf u)) × (r ≤ 16) × (take r (u .bytes) ≡ nameOf u) ⌝ }
+{
+    if 16 < u.len {
+        return 16;
+    }
+    u.len
+}
+
+fn first(name: &[u8], n: usize) -> UsernameAnswer
+    requires { ⌜ (n ≤ length (now name)) × (n ≤ 16) × (take 16 (now name) ≡ take n (now name)) ⌝ }
+    ensures { λ r. ⌜ NamePromise (usernameOf (now (name .entry))) r ⌝ }
+{
+    let mut bytes = [0u8; 16];
+    if !allowed(&name[..n]) {
+        return UsernameAnswer {
+            answer: Test::Refused(Refusal::InvalidUsername),
+            username: Username { bytes, len: 0 },
+        };
+    }
+    octets::put(&mut bytes, 0, &name[..n]);
+    UsernameAnswer {
+        answer: Test::Passed,
+        username: Username { bytes, len: n },
+    }
+}
+
+pub struct RakpMessage1 {
+    pub tag: u8,
+    pub system: u32,
+    pub random: [u8; 16],
+    pub role: u8,
+    pub username: Username,
+}
+
+// The four pieces, one after another; of the name its first n bytes.
+fn put_all(out: &mut [u8], head: [u8; 8], random: [u8; 16], role: [u8; 4], name: [u8; 16], n: usize)
+    requires { ⌜ (n ≤ 16) × (28 + n ≤ length (now out)) ⌝ }
+    ensures { λ _. ⌜ now (out .exit) ≡ begun (head ++ random ++ role ++ take n name) (now (out .entry)) ⌝ }
+{
+    octets::put(out, 0, &head);
+    octets::put(out, 8, &random);
+    octets::put(out, 24, &role);
+    octets::put(out, 28, &name[..n]);
+}
+
+impl RakpMessage1 {
+    pub fn write(self, out: &mut [u8]) -> Written
+        ensures { λ r. ⌜ WritePromise (message1 self) (now (out .entry)) r (now (out .exit)) ⌝ }
+    {
+        let name = self.username;
+        let bytes = name.bytes;
+        let random = self.random;
+        let n = name_len(name);
+        if out.len() < 28 + n {
+            return Written::Refused(Refusal::OutputTooShort);
+        }
+        put_all(
+            out,
+            rakp::begin(self.tag, 0, 0, 0, self.system),
+            random,
+            [self.role, 0, 0, n as u8],
+            bytes,
+            n,
+        );
+        Written::Bytes(28 + n)
+    }
+}

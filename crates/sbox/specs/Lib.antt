@@ -1,0 +1,3 @@
+pub mod Field
+pub mod Tab
+pub mod Substitution

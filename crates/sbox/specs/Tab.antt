@@ -1,0 +1,7 @@
+-- A list by the rule of its elements: f 0, f 1, .. , f (n - 1).
+use Prim.Native.Nat.{ℕ, zero, suc}
+use mathlib.Core.List.{List, [], _∷_}
+
+abbrev pub tab : ℕ → (ℕ → ℕ) → List ℕ
+tab zero f = []
+tab (suc n) f = f 0 ∷ tab n (λ i. f (suc i))

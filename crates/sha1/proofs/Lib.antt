@@ -1,0 +1,10 @@
+pub mod Rooms
+pub mod Takes
+pub mod Closes
+pub mod Promised
+pub mod Sequence
+pub mod Sizes
+pub mod Macs
+pub mod Coded
+pub mod Only
+pub mod Vectors

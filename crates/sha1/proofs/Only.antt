@@ -1,0 +1,82 @@
+-- No second answer: two answers that keep a call's promise on the same arguments are equal.
+use Prim.Native.Nat.{ℕ}
+use mathlib.Core.Bool.{Bool}
+use mathlib.Core.List.{List}
+use mathlib.Core.Path.{_≡_, refl, sym, _∙_}
+use Rattle.refusal.specs.Order.{refuse, accept}
+use Rattle.refusal.specs.Table.{numberOf, valueOf}
+use Rattle.refusal.proofs.Order.{refuse≢accept}
+use Rattle.refusal.proofs.Numbers.{told-one}
+use Rattle.sha1.specs.Answers.{told, FedPromise, MacPromise, HashedPromise}
+use Rattle.sha1.specs.declared.Outcome.{Outcome}
+use Rattle.sha1.specs.declared.Outcome.the-variants.{Done, Refused}
+use Rattle.sha1.specs.declared.Sha1.{Sha1}
+use Rattle.sha1.specs.declared.Fed.{Fed}
+use Rattle.sha1.specs.declared.Hashed.{Hashed}
+use Rattle.sha1.specs.declared.mac.Sha1Hmac.{Sha1Hmac}
+use Rattle.sha1.specs.declared.mac.MacFed.{MacFed}
+use Rattle.sha1.proofs.Sha1.new.Reads as new-reads
+use Rattle.sha1.proofs.Sha1.update.Reads as update-reads
+use Rattle.sha1.proofs.Sha1.finalize.Reads as finalize-reads
+use Rattle.sha1.proofs.hash.Reads as hash-reads
+use Rattle.sha1.proofs.mac.Sha1Hmac.new.Reads as mac-new-reads
+use Rattle.sha1.proofs.mac.Sha1Hmac.feed.Reads as mac-feed-reads
+use Rattle.sha1.proofs.mac.Sha1Hmac.finalize.Reads as mac-finalize-reads
+use Rattle.sha1.proofs.mac.hmac.Reads as hmac-reads
+
+-- an outcome is known by what is told of it
+outcome-one : (a b : Outcome) → told a ≡ told b → a ≡ b
+outcome-one Done Done e = refl
+outcome-one Done (Refused r) e = absurd (refuse≢accept (numberOf r) (valueOf r) tt (sym e))
+outcome-one (Refused r) Done e = absurd (refuse≢accept (numberOf r) (valueOf r) tt e)
+outcome-one (Refused r) (Refused q) e =
+    let n : numberOf r ≡ numberOf q = cc in
+    let v : valueOf r ≡ valueOf q = cc in
+    let h : r ≡ q = told-one r q n v in
+    λ i. Refused (h i)
+
+fed-one : (ok : Bool) (x y : Sha1) (a b : Fed) → FedPromise ok x y a → FedPromise ok x y b → a ≡ b
+fed-one ok x y a b p q =
+    let e : a .answer ≡ b .answer = outcome-one (a .answer) (b .answer) (p .answer ∙ sym (q .answer)) in
+    let f : a .hash ≡ b .hash = p .hash ∙ sym (q .hash) in
+    let g : a .blocks ≡ b .blocks = p .blocks ∙ sym (q .blocks) in
+    λ i. record { answer = e i; hash = f i; blocks = g i }
+
+mac-one : (ok : Bool) (x y : Sha1Hmac) (a b : MacFed) → MacPromise ok x y a → MacPromise ok x y b → a ≡ b
+mac-one ok x y a b p q =
+    let e : a .answer ≡ b .answer = outcome-one (a .answer) (b .answer) (p .answer ∙ sym (q .answer)) in
+    let f : a .mac ≡ b .mac = p .mac ∙ sym (q .mac) in
+    let g : a .blocks ≡ b .blocks = p .blocks ∙ sym (q .blocks) in
+    λ i. record { answer = e i; mac = f i; blocks = g i }
+
+pub hashed-one : (ok : Bool) (d : List ℕ) (n : ℕ) (a b : Hashed) → HashedPromise ok d n a → HashedPromise ok d n b → a ≡ b
+hashed-one ok d n a b p q =
+    let e : a .answer ≡ b .answer = outcome-one (a .answer) (b .answer) (p .answer ∙ sym (q .answer)) in
+    let f : a .digest ≡ b .digest = p .digest ∙ sym (q .digest) in
+    let g : a .blocks ≡ b .blocks = p .blocks ∙ sym (q .blocks) in
+    λ i. record { answer = e i; digest = f i; blocks = g i }
+
+pub new-only : (κs : _) (args : _) (a b : _) (s t : _) → new-reads.Post κs args a s → new-reads.Post κs args b t → a ≡ b
+new-only κs args a b s t p q = p ∙ sym q
+
+pub update-only : (κs : _) (args : _) (a b : _) (s t : _) → update-reads.Post κs args a s → update-reads.Post κs args b t → a ≡ b
+update-only κs args a b s t p q = fed-one _ _ _ a b p q
+
+pub finalize-only : (κs : _) (args : _) (a b : _) (s t : _) → finalize-reads.Post κs args a s → finalize-reads.Post κs args b t → a ≡ b
+finalize-only κs args a b s t p q = hashed-one _ _ _ a b p q
+
+pub hash-only : (κs : _) (args : _) (a b : _) (s t : _) → hash-reads.Post κs args a s → hash-reads.Post κs args b t → a ≡ b
+hash-only κs args a b s t p q = hashed-one _ _ _ a b p q
+
+pub mac-new-only : (κs : _) (args : _) (a b : _) (s t : _) → mac-new-reads.Post κs args a s → mac-new-reads.Post κs args b t → a ≡ b
+mac-new-only κs args a b s t p q = mac-one _ _ _ a b p q
+
+pub mac-feed-only : (κs : _) (args : _) (a b : _) (s t : _) → mac-feed-reads.Post κs args a s → mac-feed-reads.Post κs args b t → a ≡ b
+mac-feed-only κs args a b s t p q = mac-one _ _ _ a b p q
+
+pub mac-finalize-only : (κs : _) (args : _) (a b : _) (s t : _)
+    → mac-finalize-reads.Post κs args a s → mac-finalize-reads.Post κs args b t → a ≡ b
+mac-finalize-only κs args a b s t p q = hashed-one _ _ _ a b p q
+
+pub hmac-only : (κs : _) (args : _) (a b : _) (s t : _) → hmac-reads.Post κs args a s → hmac-reads.Post κs args b t → a ≡ b
+hmac-only κs args a b s t p q = hashed-one _ _ _ a b p q

@@ -1,0 +1,19 @@
+-- `kept` keeps its promise: no block becomes full.
+use mathlib.Core.Path.{_≡_}
+use native.Mathlib.Omega.{arith}
+use lib.ListN.{length}
+use Rattle.sha1.proofs.Takes.{taken-kept}
+use borrow.Author.Needs.{needs}
+use Rattle.sha1.proofs.Sha1.kept.Statement.{statement}
+use Rattle.sha1.proofs.Sha1.kept.Tie as tie
+
+returns : tie.Need-returns
+returns c =
+    let a = c .before .before .before .before .before .before .args in
+    let l : length (a .self .buf) ≡ 64 = search needs in
+    taken-kept (a .self) (a .s .now) _ _ l (omega arith) (omega arith) (c .before .before .filled .ensures) (c .wrapping-add-u32 .ensures)
+
+pub kept-spec : {M : Type 1} → statement M
+kept-spec =
+    tie.close
+    (tie.spec (λ c. search needs) (λ c κs. search needs) (λ c. search needs) (λ c κs. search needs) returns)

@@ -1,0 +1,28 @@
+-- `swept` keeps its promise: nothing waits, and the whole blocks are those of the piece.
+use native.Mathlib.Omega.{arith}
+use Rattle.sha1.proofs.Takes.{taken-swept}
+use borrow.Author.Needs.{needs}
+use Rattle.sha1.proofs.Sha1.swept.Statement.{statement}
+use Rattle.sha1.proofs.Sha1.swept.Tie as tie
+
+returns : tie.Need-returns
+returns c =
+    let a = c .before .before .before .before .before .before .args in
+    taken-swept (a .self) (a .s .now) _ _ _ _ (omega arith) (c .before .before .before .filled .ensures) (c .before .before .blocks2 .ensures)
+    (c .before .wrapping-add-u32 .ensures) (c .wrapping-add-u322 .ensures)
+
+pub swept-spec : {M : Type 1} → statement M
+swept-spec =
+    tie.close
+    (tie.spec
+    (λ c. search needs)
+    (λ c. search needs)
+    (λ c. search needs)
+    (λ c. search needs)
+    (λ c κs. search needs)
+    (λ c κs. search needs)
+    (λ c. search needs)
+    (λ c κs. search needs)
+    (λ c. search needs)
+    (λ c κs. search needs)
+    returns)

@@ -1,0 +1,23 @@
+-- `last_block` keeps its promise: the padding of 84 bytes is computed.
+use mathlib.Core.Path.{_≡_}
+use lib.ListN.{length}
+use Rattle.sha1.proofs.Macs.{last-law}
+use borrow.Author.Needs.{needs}
+use Rattle.sha1.proofs.mac.last_block.Statement.{statement}
+use Rattle.sha1.proofs.mac.last_block.Tie as tie
+
+returns : tie.Need-returns
+returns c =
+    let l : length (c .before .before .args .t1) ≡ 20 = search needs in
+    last-law (c .before .before .args .t1) _ l (c .copied .ensures)
+
+pub last-block-spec : {M : Type 1} → statement M
+last-block-spec =
+    tie.close
+    (tie.spec
+    (λ c. search needs)
+    (λ c. search needs)
+    (λ c. search needs)
+    (λ c. search needs)
+    (λ c κs. search needs)
+    returns)

@@ -1,0 +1,46 @@
+-- `masked` keeps its promise. Invariant: the first i bytes are xored.
+use borrow.Author.Needs.{needs}
+use Prim.Native.Nat.{_≤_, _-_}
+use mathlib.Core.Path.{_≡_}
+use mathlib.Core.List.{_++_}
+use native.Mathlib.Omega.{arith}
+use lib.ListN.{length, take, drop}
+use Rattle.hmac.specs.Hmac.{xored}
+use Rattle.sha1.proofs.Macs.{masked-turn, masked-end}
+use Rattle.sha1.proofs.mac.masked.Statement.{statement}
+use Rattle.sha1.proofs.mac.masked.Tie as tie
+
+abbrev Inv-loop : tie.InvT-loop
+Inv-loop x b₀ i₀ b i = (i ≤ 64) × (length b₀ ≡ 64) × (length b ≡ 64) × (b ≡ xored x (take i b₀) ++ drop i b₀)
+
+abbrev μ-loop : tie.MeasureT-loop
+μ-loop x b₀ i₀ b i = 64 - i
+
+loop-holds : tie.Need-loop-holds Inv-loop μ-loop
+unfolding xored
+loop-holds c = search needs
+
+loop-again : tie.Need-loop-again Inv-loop μ-loop
+loop-again c =
+    let l = c .before .loop in
+    (search needs, search needs, search needs, masked-turn (l .b) _ _ (l .i) (omega arith) (l .inv .3))
+
+returns : tie.Need-returns Inv-loop μ-loop
+returns c =
+    let l = c .before .loop in
+    let e : l .i ≡ 64 = omega arith in
+    masked-end (l .b) _ _ (l .inv .1) (rw e at (l .inv .3))
+
+pub masked-spec : {M : Type 1} → statement M
+masked-spec =
+    tie.close
+    (tie.spec
+    Inv-loop
+    μ-loop
+    loop-holds
+    (λ c. search needs)
+    (λ c. search needs)
+    (λ c. search needs)
+    (λ c. search needs)
+    loop-again
+    returns)

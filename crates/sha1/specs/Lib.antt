@@ -1,0 +1,4 @@
+pub mod Hash
+pub mod Running
+pub mod Mac
+pub mod Answers

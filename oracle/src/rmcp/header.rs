@@ -1,0 +1,3 @@
+//! Stand-in: the error that `rmcp/mod.rs` names.
+#[derive(Debug)]
+pub struct RmcpHeaderError;

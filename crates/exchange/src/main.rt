@@ -1,0 +1,293 @@
+// A whole exchange on fixed bytes: Begin to the first packet, which the system's own keys read back. What the system sends and what
+// is printed here were worked out elsewhere (tests/exchange-expected).
+use frame::PayloadType;
+use frame::Read;
+use frame::Reading;
+use frame::SubState;
+use frame::Written;
+use keys::Keys;
+use libc::STDOUT_FILENO;
+use messages::open_session::RequestedPrivilege;
+use session::Record;
+use text::Cursor;
+
+const OPEN_RESPONSE: [u8; 36] = [
+    0x00,
+    0x00,
+    0x04,
+    0x00,
+    0xa4,
+    0xa3,
+    0xa2,
+    0x0a,
+    0xe0,
+    0x34,
+    0x71,
+    0x4a,
+    0x00,
+    0x00,
+    0x00,
+    0x08,
+    0x01,
+    0x00,
+    0x00,
+    0x00,
+    0x01,
+    0x00,
+    0x00,
+    0x08,
+    0x01,
+    0x00,
+    0x00,
+    0x00,
+    0x02,
+    0x00,
+    0x00,
+    0x08,
+    0x01,
+    0x00,
+    0x00,
+    0x00,
+];
+
+const MESSAGE_2: [u8; 60] = [
+    0x0d,
+    0x00,
+    0x00,
+    0x00,
+    0xa4,
+    0xa3,
+    0xa2,
+    0x0a,
+    0x30,
+    0x31,
+    0x32,
+    0x33,
+    0x34,
+    0x35,
+    0x36,
+    0x37,
+    0x38,
+    0x39,
+    0x3a,
+    0x3b,
+    0x3c,
+    0x3d,
+    0x3e,
+    0x3f,
+    0x50,
+    0x51,
+    0x52,
+    0x53,
+    0x54,
+    0x55,
+    0x56,
+    0x57,
+    0x58,
+    0x59,
+    0x5a,
+    0x5b,
+    0x5c,
+    0x5d,
+    0x5e,
+    0x5f,
+    0x38,
+    0x44,
+    0xec,
+    0x93,
+    0x80,
+    0x3c,
+    0x94,
+    0x0b,
+    0xec,
+    0xf2,
+    0x8c,
+    0x70,
+    0x14,
+    0x8f,
+    0x3f,
+    0xcf,
+    0x66,
+    0x7d,
+    0x6e,
+    0x72,
+];
+
+const MESSAGE_4: [u8; 20] = [
+    0x0a,
+    0x00,
+    0x00,
+    0x00,
+    0xa4,
+    0xa3,
+    0xa2,
+    0x0a,
+    0x31,
+    0xf3,
+    0xda,
+    0x75,
+    0x1c,
+    0x9e,
+    0xb8,
+    0x28,
+    0x36,
+    0xce,
+    0xd3,
+    0x4c,
+];
+
+const RM: [u8; 16] = [
+    0x10,
+    0x11,
+    0x12,
+    0x13,
+    0x14,
+    0x15,
+    0x16,
+    0x17,
+    0x18,
+    0x19,
+    0x1a,
+    0x1b,
+    0x1c,
+    0x1d,
+    0x1e,
+    0x1f,
+];
+
+const RC: [u8; 16] = [
+    0x30,
+    0x31,
+    0x32,
+    0x33,
+    0x34,
+    0x35,
+    0x36,
+    0x37,
+    0x38,
+    0x39,
+    0x3a,
+    0x3b,
+    0x3c,
+    0x3d,
+    0x3e,
+    0x3f,
+];
+
+const IV: [u8; 16] = [
+    0x60,
+    0x61,
+    0x62,
+    0x63,
+    0x64,
+    0x65,
+    0x66,
+    0x67,
+    0x68,
+    0x69,
+    0x6a,
+    0x6b,
+    0x6c,
+    0x6d,
+    0x6e,
+    0x6f,
+];
+
+// The user's name, in its sixteen bytes.
+const NAME: [u8; 16] = *b"nightdesk\x00\x00\x00\x00\x00\x00\x00";
+
+const NAME_LEN: usize = 9;
+
+// The first `n` bytes of what was written, where there are as many.
+fn printed(out: &[u8], n: usize) {
+    if n <= out.len() {
+        io::write_all(STDOUT_FILENO, &out[..n]);
+    }
+}
+
+fn line(label: &[u8], s: &[u8]) {
+    let mut out = [0u8; 512];
+    let start = Cursor { at: 0, full: false };
+    let a = text::add(&mut out, start, label);
+    let b = text::hex(&mut out, a, s);
+    let c = text::add(&mut out, b, b"\n");
+    printed(&out, c.at);
+}
+
+fn shown(label: &[u8], n: usize, out: &[u8]) {
+    if n <= out.len() {
+        line(label, &out[..n]);
+    }
+}
+
+// The console's four steps.
+fn opened() -> Record {
+    let mut out = [0u8; 64];
+    let kg = [0x77u8; 20];
+    let a = session::begin(
+        0x0aa2a3a4,
+        RequestedPrivilege::Level(4),
+        b"nightdesk",
+        &mut out,
+    );
+    shown(b"request ", a.len, &out);
+    let b = session::open_response(a.state, &OPEN_RESPONSE, RM, &mut out);
+    shown(b"message 1 ", b.len, &out);
+    let c = session::message_2(b.state, &kg, b"renderfarm", &MESSAGE_2, &mut out);
+    shown(b"message 3 ", c.len, &out);
+    let d = session::message_4(c.state, &MESSAGE_4);
+    d.state
+}
+
+// The system's session, from its own SIK.
+fn system() -> SubState {
+    let kg = [0x77u8; 20];
+    let h = keys::state::sik(&kg, b"renderfarm", RM, RC, 0x04, NAME, NAME_LEN);
+    let digest = h.digest;
+    SubState {
+        keys: Keys::from_sik(digest),
+        confidentiality: frame::Confidentiality::AesCbc128,
+        integrity: frame::Integrity::HmacSha1_96,
+    }
+}
+
+// What the system reads of a datagram.
+fn read_back(datagram: &mut [u8]) {
+    let r = frame::read_datagram(system(), datagram);
+    let answer = r.answer;
+    if let Reading::Accepted {
+        ty: _,
+        session_id: _,
+        session_sequence_number: _,
+        len,
+    } = answer {
+        if 4 <= datagram.len() {
+            line(b"read back ", frame::payload(&datagram[4..], true, len));
+        }
+    }
+}
+
+fn main() {
+    let made = session::sub_state(opened());
+    let s = made.session;
+    let k = s.keys;
+    let k1 = k.k1;
+    line(b"k1 ", &k1);
+    line(b"aes ", &k.aes_key());
+    let mut out = [0u8; 64];
+    let w = frame::write_datagram(
+        s,
+        PayloadType::IpmiMessage,
+        0x4a7134e0,
+        1,
+        b"\x20\x18\xc8\x81\x04\x01\x7a",
+        IV,
+        &mut out,
+    );
+    if let Written::Length(n) = w {
+        shown(b"datagram ", n, &out);
+        if n == 64 {
+            read_back(&mut out);
+        }
+    }
+}

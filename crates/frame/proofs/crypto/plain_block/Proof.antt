@@ -1,0 +1,23 @@
+-- `plain_block` keeps its promise: a block of the plain text is made from the two blocks that meet at its start.
+use mathlib.Core.Path.{ap, ap₂, _∙_}
+use Rattle.aes.specs.Schedule.{keysOf}
+use Rattle.aes.specs.Cipher.{invCipher}
+use Rattle.cbc.specs.Cbc.{xorBlock}
+use Rattle.frame.proofs.Chained.{body-block}
+use borrow.Author.Needs.{needs}
+use Rattle.frame.proofs.crypto.plain_block.Statement.{statement}
+use Rattle.frame.proofs.crypto.plain_block.Tie as tie
+
+returns : tie.Need-returns
+returns c = let a = c .before .before .before .before .before .args in let p = c .before .before .before .before .before .pre in c .sum-block .ensures ∙ ap₂ xorBlock (c .before .decrypt-block .ensures ∙ ap (invCipher (keysOf (a .w))) (c .before .before .before .block-at .ensures)) (c .before .before .block-at2 .ensures) ∙ body-block (keysOf (a .w)) (a .body .now) (a .at) (p .0) (p .1) (p .2)
+
+pub plain-block-spec : {M : Type 1} → statement M
+plain-block-spec =
+    tie.close
+    (tie.spec
+    (λ c κs. search needs)
+    (λ c. search needs)
+    (λ c κs. search needs)
+    (λ c κs. search needs)
+    (λ c κs. search needs)
+    returns)

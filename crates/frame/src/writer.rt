@@ -1,0 +1,270 @@
+// Writing a packet: every size is known, and the room tested, before the first byte.
+ghost use mathlib.Core.Path.{_≡_};
+ghost use mathlib.Core.Bool.{true};
+ghost use mathlib.Core.List.{[], _∷_, _++_};
+ghost use Prim.Native.Nat.{_+_, _-_, _≤_, _<_};
+ghost use lib.ListN.{length, take, replicate};
+ghost use Rattle.octets.specs.Place.{pasted, begun};
+ghost use Rattle.frame.specs.Types.{encrypts, typeNumber};
+ghost use Rattle.frame.specs.Packet.{headerOf, counting, plainOf};
+ghost use Rattle.frame.specs.Write.{leastP, leastQ, bodySize, packetSize, roomOf, longestPayload, ourBody, ourPads, ours};
+ghost use Rattle.frame.specs.Session.{suiteOf};
+ghost use Rattle.frame.specs.Answers.{stepTold, WritePromise};
+ghost use Rattle.frame.specs.Outer.{writeOf, writeDatagramOf};
+use crate::Confidentiality;
+use crate::Integrity;
+use crate::PayloadType;
+use crate::Step;
+use crate::SubState;
+use crate::Written;
+use crate::crypto;
+use refusal::Refusal;
+
+// The least count of pad bytes for whole blocks.
+fn least_p(n: usize) -> usize
+    requires { ⌜ n ≤ 65535 ⌝ }
+    ensures { λ r. ⌜ r ≡ leastP n ⌝ }
+{
+    (16 - (n + 1) % 16) % 16
+}
+
+// The least count of pad bytes for a multiple of 4.
+fn least_q(n: usize) -> usize
+    requires { ⌜ n ≤ 131072 ⌝ }
+    ensures { λ r. ⌜ r ≡ leastQ n ⌝ }
+{
+    (4 - (n + 2) % 4) % 4
+}
+
+fn body_size(c: Confidentiality, n: usize) -> usize
+    requires { ⌜ n ≤ 65535 ⌝ }
+    ensures { λ r. ⌜ r ≡ bodySize (encrypts c) n ⌝ }
+{
+    match c {
+        Confidentiality::None => n,
+        Confidentiality::AesCbc128 => 16 + n + least_p(n) + 1,
+    }
+}
+
+fn packet_size(s: SubState, n: usize) -> usize
+    requires { ⌜ n ≤ 65535 ⌝ }
+    ensures { λ r. ⌜ r ≡ packetSize (suiteOf s) n ⌝ }
+{
+    let c = s.confidentiality;
+    let i = s.integrity;
+    let k = 12 + body_size(c, n);
+    match i {
+        Integrity::None => k,
+        Integrity::HmacSha1_96 => k + (least_q(k) + 2 + crate::code_len(i)),
+    }
+}
+
+// The longest payload that a body can carry.
+fn longest(c: Confidentiality) -> usize
+    ensures { λ r. ⌜ r ≡ longestPayload (encrypts c) ⌝ }
+{
+    match c {
+        Confidentiality::None => 65535,
+        Confidentiality::AesCbc128 => 65503,
+    }
+}
+
+// The writer's refusals, for a payload of n bytes behind `before` others.
+fn room_for(s: SubState, n: usize, before: usize, room: usize) -> Step
+    requires { ⌜ before ≤ 4 ⌝ }
+    ensures { λ r. ⌜ stepTold r ≡ roomOf (suiteOf s) before n room ⌝ }
+{
+    if n > 65535 {
+        return Step::Stop(Refusal::PayloadTooLong);
+    }
+    let c = s.confidentiality;
+    if longest(c) < n {
+        return Step::Stop(Refusal::EncryptedPayloadTooLong);
+    }
+    let size = before + packet_size(s, n);
+    if room < size {
+        return Step::Stop(Refusal::OutputTooShort);
+    }
+    Step::Go(size)
+}
+
+// The number that stands for a type.
+fn type_number(ty: PayloadType) -> u8
+    ensures { λ r. ⌜ (r ≡ typeNumber ty) × (r < 64) ⌝ }
+{
+    match ty {
+        PayloadType::IpmiMessage => 0x00,
+        PayloadType::Sol => 0x01,
+        PayloadType::RmcpPlusOpenSessionRequest => 0x10,
+        PayloadType::RmcpPlusOpenSessionResponse => 0x11,
+        PayloadType::RakpMessage1 => 0x12,
+        PayloadType::RakpMessage2 => 0x13,
+        PayloadType::RakpMessage3 => 0x14,
+        PayloadType::RakpMessage4 => 0x15,
+    }
+}
+
+// The twelve bytes before a body of n bytes.
+fn header(s: SubState, ty: PayloadType, id: u32, seq: u32, n: usize) -> [u8; 12]
+    requires { ⌜ n ≤ 65535 ⌝ }
+    ensures { λ r. ⌜ r ≡ headerOf (suiteOf s) (record { ty = typeNumber ty; id = id; seq = seq; payload = [] }) n ⌝ }
+{
+    let c = s.confidentiality;
+    let i = s.integrity;
+    let flags = 128 * crate::aes_bit(c) + 64 * crate::code_bit(i) + type_number(ty);
+    [
+        0x06,
+        flags,
+        (id % 256) as u8,
+        (id / 256 % 256) as u8,
+        (id / 256 / 256 % 256) as u8,
+        (id / 256 / 256 / 256 % 256) as u8,
+        (seq % 256) as u8,
+        (seq / 256 % 256) as u8,
+        (seq / 256 / 256 % 256) as u8,
+        (seq / 256 / 256 / 256 % 256) as u8,
+        (n % 256) as u8,
+        (n / 256 % 256) as u8,
+    ]
+}
+
+// The pad bytes 1, 2, .. p and their count.
+fn put_pad(out: &mut [u8], at: usize, p: usize)
+    requires { ⌜ (p < 16) × (at + p + 1 ≤ length (now out)) ⌝ }
+    ensures { λ _. ⌜ now (out .exit) ≡ pasted (now (out .entry)) at (counting p ++ (p ∷ [])) ⌝ }
+{
+    let mut pad: [u8; 16] = [1, 2, 3, 4, 5, 6, 7, 8, 9, 10, 11, 12, 13, 14, 15, 16];
+    pad[p] = p as u8;
+    let n = p + 1;
+    octets::put(out, at, &pad[..n]);
+}
+
+// The integrity pad of q bytes FF, its count and the next header.
+fn put_next(out: &mut [u8], at: usize, q: usize)
+    requires { ⌜ (q < 4) × (at + q + 2 ≤ length (now out)) ⌝ }
+    ensures { λ _. ⌜ now (out .exit) ≡ pasted (now (out .entry)) at (replicate q 0xFF ++ (q ∷ 0x07 ∷ [])) ⌝ }
+{
+    let mut next = [0xFFu8; 5];
+    next[q] = q as u8;
+    next[q + 1] = 0x07;
+    let n = q + 2;
+    octets::put(out, at, &next[..n]);
+}
+
+// An encrypted body at its place: the IV, then payload, pad and count, encrypted where they stand.
+fn write_aes(s: SubState, payload: &[u8], iv: [u8; 16], out: &mut [u8])
+    requires { ⌜ (length (now payload) ≤ 65535) × (12 + bodySize true (length (now payload)) ≤ length (now out)) ⌝ }
+    ensures { λ _. ⌜ now (out .exit) ≡ pasted (now (out .entry)) 12 (iv ++ suiteOf s .enc iv (plainOf (now (payload .entry)) (leastP (length (now (payload .entry)))))) ⌝ }
+{
+    let n = payload.len();
+    let p = least_p(n);
+    octets::put(out, 12, &iv);
+    octets::put(out, 28, payload);
+    put_pad(out, 28 + n, p);
+    let keys = s.keys;
+    let key = keys.aes_key();
+    let end = 28 + n + p + 1;
+    crypto::encrypt(key, iv, &mut out[28..end]);
+}
+
+// The body at its place.
+fn write_body(s: SubState, payload: &[u8], iv: [u8; 16], out: &mut [u8])
+    requires { ⌜ (length (now payload) ≤ 65535) × (12 + bodySize (suiteOf s .aes) (length (now payload)) ≤ length (now out)) ⌝ }
+    ensures { λ _. ⌜ now (out .exit) ≡ pasted (now (out .entry)) 12 (ourBody (suiteOf s) (now (payload .entry)) iv) ⌝ }
+{
+    let c = s.confidentiality;
+    match c {
+        Confidentiality::None => {
+            octets::put(out, 12, payload);
+        }
+        Confidentiality::AesCbc128 => write_aes(s, payload, iv, out),
+    }
+}
+
+// The trailer behind k bytes: pad, count, next header, and the code of everything up to there.
+fn write_code(s: SubState, k: usize, out: &mut [u8])
+    requires { ⌜ (k ≤ 65580) × (k + leastQ k + 2 + suiteOf s .m ≤ length (now out)) ⌝ }
+    ensures { λ _. ⌜ now (out .exit) ≡ pasted (now (out .entry)) k (ourPads k ++ suiteOf s .mac (take k (now (out .entry)) ++ ourPads k)) ⌝ }
+{
+    let q = least_q(k);
+    put_next(out, k, q);
+    let n = k + q + 2;
+    let keys = s.keys;
+    let key = keys.k1;
+    let c = crypto::code_of(key, &out[..n]);
+    let i = s.integrity;
+    let m = crate::code_len(i);
+    let code = c.code;
+    octets::put(out, n, &code[..m]);
+}
+
+// A packet at the start of an output with room for it.
+fn write_packet(
+    s: SubState,
+    ty: PayloadType,
+    id: u32,
+    seq: u32,
+    payload: &[u8],
+    iv: [u8; 16],
+    out: &mut [u8],
+)
+    requires { ⌜ (length (now payload) ≤ longestPayload (suiteOf s .aes)) × (packetSize (suiteOf s) (length (now payload)) ≤ length (now out)) ⌝ }
+    ensures { λ _. ⌜ now (out .exit) ≡ begun (ours (suiteOf s) (record { ty = typeNumber ty; id = id; seq = seq; payload = now (payload .entry) }) iv) (now (out .entry)) ⌝ }
+{
+    let c = s.confidentiality;
+    let n = body_size(c, payload.len());
+    let h = header(s, ty, id, seq, n);
+    octets::put(out, 0, &h);
+    write_body(s, payload, iv, out);
+    let i = s.integrity;
+    match i {
+        Integrity::None => {}
+        Integrity::HmacSha1_96 => write_code(s, 12 + n, out),
+    }
+}
+
+// Writes a packet of a session.
+pub fn write_payload(
+    s: SubState,
+    ty: PayloadType,
+    id: u32,
+    seq: u32,
+    payload: &[u8],
+    iv: [u8; 16],
+    out: &mut [u8],
+) -> Written
+    ensures { λ r. ⌜ WritePromise (writeOf (suiteOf s) (record { ty = typeNumber ty; id = id; seq = seq; payload = now (payload .entry) }) iv (length (now (out .entry)))) (now (out .entry)) r (now (out .exit)) ⌝ }
+{
+    let t = room_for(s, payload.len(), 0, out.len());
+    match t {
+        Step::Stop(r) => Written::Refused(r),
+        Step::Go(n) => {
+            write_packet(s, ty, id, seq, payload, iv, out);
+            Written::Length(n)
+        }
+    }
+}
+
+// Writes a datagram: the four outer bytes, then a packet.
+pub fn write_datagram(
+    s: SubState,
+    ty: PayloadType,
+    id: u32,
+    seq: u32,
+    payload: &[u8],
+    iv: [u8; 16],
+    out: &mut [u8],
+) -> Written
+    ensures { λ r. ⌜ WritePromise (writeDatagramOf (suiteOf s) (record { ty = typeNumber ty; id = id; seq = seq; payload = now (payload .entry) }) iv (length (now (out .entry)))) (now (out .entry)) r (now (out .exit)) ⌝ }
+{
+    let t = room_for(s, payload.len(), 4, out.len());
+    match t {
+        Step::Stop(r) => Written::Refused(r),
+        Step::Go(n) => {
+            let outer = crate::OUTER;
+            octets::put(out, 0, &outer);
+            write_packet(s, ty, id, seq, payload, iv, &mut out[4..]);
+            Written::Length(n)
+        }
+    }
+}

@@ -1,0 +1,116 @@
+// The cases of the cipher and of the session's keys.
+use crate::say;
+use crate::walk::Field;
+use crate::walk::Got;
+use crate::walk::block_of;
+use crate::walk::bytes;
+use crate::walk::last;
+use crate::walk::next;
+use crate::walk::part;
+use crate::walk::part_mut;
+use crate::walk::sik_of;
+use aes::Aes128;
+use cbc::Ciphered;
+use keys::Keys;
+use text::Cursor;
+
+fn one_block(key: [u8; 16], b: [u8; 16], decrypts: bool) -> [u8; 16] {
+    let k = Aes128::new(key);
+    if decrypts {
+        k.decrypt_block(b)
+    } else {
+        k.encrypt_block(b)
+    }
+}
+
+// `encrypt KEY BLOCK` and `decrypt KEY BLOCK`.
+pub fn block_case(line: &[u8], f: Field, decrypts: bool, out: &mut [u8], c: Cursor) -> Cursor {
+    let f = next(line, f);
+    let key = block_of(line, f);
+    let f = next(line, f);
+    let b = block_of(line, f);
+    if !key.ok {
+        return say::bad_line(out, c);
+    }
+    if !b.ok {
+        return say::bad_line(out, c);
+    }
+    if !last(line, f) {
+        return say::bad_line(out, c);
+    }
+    let k = key.bytes;
+    let x = b.bytes;
+    let y = one_block(k, x, decrypts);
+    let c = text::add(out, c, b"ok ");
+    text::hex(out, c, &y)
+}
+
+fn blocks(key: [u8; 16], iv: [u8; 16], s: &mut [u8], decrypts: bool) -> Ciphered {
+    if decrypts {
+        cbc::cbc_decrypt(key, iv, s)
+    } else {
+        cbc::cbc_encrypt(key, iv, s)
+    }
+}
+
+fn told(out: &mut [u8], c: Cursor, r: Ciphered, s: &[u8]) -> Cursor {
+    match r {
+        Ciphered::Done => {
+            let c = text::add(out, c, b"ok ");
+            say::bytes(out, c, s)
+        }
+        Ciphered::Refused(n) => say::refused(out, c, n),
+    }
+}
+
+// `cbc-encrypt KEY IV DATA` and `cbc-decrypt KEY IV DATA`.
+pub fn cbc_case(
+    line: &[u8],
+    f: Field,
+    decrypts: bool,
+    buf: &mut [u8],
+    out: &mut [u8],
+    c: Cursor,
+) -> Cursor {
+    let f = next(line, f);
+    let key = block_of(line, f);
+    let f = next(line, f);
+    let iv = block_of(line, f);
+    let f = next(line, f);
+    if !key.ok {
+        return say::bad_line(out, c);
+    }
+    if !iv.ok {
+        return say::bad_line(out, c);
+    }
+    if !last(line, f) {
+        return say::bad_line(out, c);
+    }
+    let Got::Bytes(n) = bytes(line, f, buf, 0) else {
+        return say::bad_line(out, c);
+    };
+    let k = key.bytes;
+    let v = iv.bytes;
+    let r = blocks(k, v, part_mut(buf, n), decrypts);
+    told(out, c, r, part(buf, 0, n))
+}
+
+// `keys SIK`.
+pub fn keys_case(line: &[u8], f: Field, out: &mut [u8], c: Cursor) -> Cursor {
+    let f = next(line, f);
+    let sik = sik_of(line, f);
+    if !sik.ok {
+        return say::bad_line(out, c);
+    }
+    if !last(line, f) {
+        return say::bad_line(out, c);
+    }
+    let s = sik.bytes;
+    let k = Keys::from_sik(s);
+    let k1 = k.k1;
+    let key = k.aes_key();
+    let c = text::add(out, c, b"ok k1 ");
+    let c = text::hex(out, c, &k1);
+    let c = text::add(out, c, b" aes ");
+    text::hex(out, c, &key)
+}

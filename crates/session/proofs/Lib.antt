@@ -1,0 +1,11 @@
+pub mod Stages
+pub mod Refusals
+pub mod Chains
+pub mod Makes
+pub mod Accepted
+pub mod Invariant
+pub mod Accepting
+pub mod Closing
+pub mod Heard
+pub mod Exchange
+pub mod Only

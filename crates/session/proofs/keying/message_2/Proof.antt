@@ -1,0 +1,63 @@
+-- `message_2` keeps its promise: the first stage keeps the record, the second closes it, the third proves.
+use Rattle.session.specs.Steps.{twoOf}
+use lib.ListN.{length}
+use Rattle.messages.specs.Answers.{tested}
+use mathlib.Core.Path.{sym, _∙_, ap}
+use Rattle.refusal.proofs.Order.{then-refuse}
+use Rattle.messages.proofs.Reading.{test-passed, test-refused}
+use Rattle.session.proofs.Makes.{heard-now, code-in}
+use Rattle.session.proofs.Chains.{two-known}
+use Rattle.session.proofs.Refusals.{ready-two-keeps, heard-two-shuts}
+use Rattle.session.proofs.Stages.{kept, shut, second-stop, second-go, promise-as, verdict-no}
+use borrow.Author.Needs.{needs}
+use Rattle.session.proofs.keying.message_2.Statement.{statement}
+use Rattle.session.proofs.keying.message_2.Tie as tie
+
+proved-requires : tie.Need-proved-requires
+proved-requires c κs =
+    let a = c .before .before .before .before .before .before .before .before .before .before .before .before .args in
+    let k = two-known 255 (a .state) (a .kg .now) (a .password .now) (length (a .out .now)) (test-passed _ _ (c .before .before .before .before .before .before .before .ready .ensures) (c .before .before .before .before .before .enum-told .given .1)) in
+    let u = heard-now _ (c .before .before .before .before .heard .result) (c .before .before .before .before .heard .ensures) (c .before .enum-told2 .given .1) in
+    (k .0, k .1, k .2, code-in (a .state) (a .message .now) (c .before .before .before .before .heard .result .message) u)
+
+returns : tie.Need-returns
+unfolding twoOf
+returns c =
+    let a = c .before .before .before .before .before .before .before .before .before .args in
+    let e = test-refused _ _ (c .before .before .r .given .0 .0) (c .before .before .before .before .ready .ensures) (c .before .before .r .given .1) in
+    kept _ (a .state) (a .out .now) (c .before .before .r .given .0 .0) _ (then-refuse _ _ _ _ e) (ready-two-keeps 255 (a .state) (a .kg .now) (a .password .now) _ _ _ e) (c .stopped .ensures)
+
+returns-2 : tie.Need-returns-2
+unfolding twoOf
+returns-2 c =
+    let a = c .before .before .before .before .before .before .before .before .before .before .before .before .before .before .args in
+    let t = test-passed _ _ (c .before .before .before .before .before .before .before .before .before .ready .ensures) (c .before .before .before .before .before .before .before .enum-told .given .1) in
+    let u = verdict-no _ _ _ (sym (c .before .before .before .before .before .before .heard .ensures .answer) ∙ ap tested (c .before .before .before .answer .given .1)) in
+    shut _ (a .state) (a .out .now) (c .before .before .before .answer .given .0 .0) _ _ (second-stop _ _ _ 0 _ _ t u) (heard-two-shuts (a .state) (a .message .now) _ _ u) (c .before .closed .ensures) (c .stopped2 .ensures)
+
+returns-3 : tie.Need-returns-3
+unfolding twoOf
+returns-3 c =
+    let a = c .before .before .before .before .before .before .before .before .before .before .before .before .before .before .before .args in
+    let t = test-passed _ _ (c .before .before .before .before .before .before .before .before .before .before .ready .ensures) (c .before .before .before .before .before .before .before .before .enum-told .given .1) in
+    let u = heard-now _ (c .before .before .before .before .before .before .before .heard .result) (c .before .before .before .before .before .before .before .heard .ensures) (c .before .before .before .before .enum-told2 .given .1) in
+    promise-as _ _ (a .state) (a .out .now) _ _ (second-go _ _ _ 0 _ t u) (c .before .before .proved .ensures)
+
+pub message-2-spec : {M : Type 1} → statement M
+message-2-spec =
+    tie.close
+    (tie.spec
+    (λ c κs. search needs)
+    (λ c. search needs)
+    (λ c κs. search needs)
+    (λ c. search needs)
+    (λ c κs. search needs)
+    (λ c. search needs)
+    (λ c κs. search needs)
+    (λ c κs. search needs)
+    (λ c. search needs)
+    proved-requires
+    returns
+    returns-2
+    (λ c. search needs)
+    returns-3)

@@ -1,0 +1,35 @@
+-- `proved` keeps its promise: the comparison decides between the two.
+use Rattle.session.specs.Steps.{provedTwo}
+use borrow.Author.Tests.{not-true, not-false}
+use mathlib.Core.Path.{refl, sym, _∙_}
+use Rattle.refusal.proofs.Order.{need-no, pass}
+use Rattle.session.proofs.Stages.{promise-as}
+use borrow.Author.Needs.{needs}
+use Rattle.session.proofs.keying.proved.Statement.{statement}
+use Rattle.session.proofs.keying.proved.Tie as tie
+
+returns : tie.Need-returns
+unfolding provedTwo
+returns c =
+    let a = c .before .before .before .before .before .before .before .before .before .before .args in
+    let n = sym (c .before .before .before .before .before .code-right .ensures) ∙ not-true (c .before .before .before .before .before .code-right .result) (c .before .before .before .before .if1 .taken) in
+    promise-as _ _ (a .state) (a .out .now) _ _ (need-no _ _ _ _ n) (c .before .before .decline .ensures)
+
+returns-2 : tie.Need-returns-2
+unfolding provedTwo
+returns-2 c =
+    let a = c .before .before .before .before .before .before .before .before .before .before .args in
+    let y = sym (c .before .before .before .before .before .code-right .ensures) ∙ not-false (c .before .before .before .before .before .code-right .result) (c .before .before .before .before .if1 .left) in
+    promise-as _ _ (a .state) (a .out .now) _ _ (pass _ _ _ _ y refl) (c .before .before .write .ensures)
+
+pub proved-spec : {M : Type 1} → statement M
+proved-spec =
+    tie.close
+    (tie.spec
+    (λ c κs. search needs)
+    (λ c κs. search needs)
+    (λ c. search needs)
+    returns
+    (λ c κs. search needs)
+    (λ c. search needs)
+    returns-2)

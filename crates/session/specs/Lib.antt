@@ -1,0 +1,7 @@
+pub mod Record
+pub mod Steps
+pub mod Made
+pub mod Promise
+pub mod Invariant
+pub mod System
+pub mod Exchange

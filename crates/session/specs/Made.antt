@@ -1,0 +1,21 @@
+-- What private parts of the steps hand to one another.
+use Prim.Native.Nat.{ℕ}
+use mathlib.Core.Path.{_≡_}
+use Rattle.refusal.specs.Order.{Res, accept}
+use Rattle.refusal.specs.declared.Refusal.{Refusal}
+use Rattle.messages.specs.Answers.{tested}
+use Rattle.messages.specs.Promises.{verdict}
+use Rattle.messages.specs.declared.«rakp_2».RakpMessage2.{RakpMessage2}
+use Rattle.messages.specs.declared.«rakp_2».RakpAnswer2.{RakpAnswer2}
+use Rattle.session.specs.declared.Record.{Record}
+use Rattle.session.specs.declared.Stepped.{Stepped}
+use Rattle.session.specs.declared.StepAnswer.the-variants.{Refused}
+
+-- a refused step that wrote nothing
+abbrev pub stoppedAt : Record → Refusal → Stepped
+stoppedAt s r = record { state = s; answer = Refused r; len = 0 }
+
+-- message 2 as it was heard: whether it passed, and if so what it says
+pub record HeardTwo (R : Res RakpMessage2) (r : RakpAnswer2) : Type 0 where
+  pub answer : tested (r .answer) ≡ verdict R
+  pub message : (f : RakpMessage2) → R ≡ accept f → r .message ≡ f

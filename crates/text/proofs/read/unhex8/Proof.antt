@@ -1,0 +1,24 @@
+-- `unhex8` keeps its promise: eight hex digits are a number that fits.
+use mathlib.Core.Path.{sym, _∙_}
+use native.Mathlib.Omega.{arith}
+use Rattle.text.proofs.Reading.{number-most, word-not, word-value, word-bad}
+use borrow.Author.Needs.{needs}
+use Rattle.text.proofs.read.unhex8.Statement.{statement}
+use Rattle.text.proofs.read.unhex8.Tie as tie
+
+returns : tie.Need-returns
+returns c = word-not (c .before .before .args .s .now) (c .if1 .taken)
+
+cast-t7 : tie.Need-cast-t7
+cast-t7 c = omega (arith, number-most 16 0xffff_ffff _ (c .before .before .before .before .before .before .args .s .now) (sym (c .before .v .given .1) ∙ c .before .before .before .number-in .ensures))
+
+returns-2 : tie.Need-returns-2
+returns-2 c = word-value (c .before .before .before .before .before .before .args .s .now) _ (c .before .before .before .before .if1 .left) (sym (c .before .v .given .1) ∙ c .before .before .before .number-in .ensures)
+
+returns-3 : tie.Need-returns-3
+returns-3 c = word-bad (c .before .before .before .before .before .args .s .now) (c .before .before .before .if1 .left) (sym (c .enum-told .given .1) ∙ c .before .before .number-in .ensures)
+
+pub unhex8-spec : {M : Type 1} → statement M
+unhex8-spec =
+    tie.close
+    (tie.spec returns (λ c κs. search needs) (λ c. search needs) cast-t7 (λ c. search needs) returns-2 returns-3)

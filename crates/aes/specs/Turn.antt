@@ -1,4 +1,4 @@
--- What one turn of the code's key expansion computes: the next round key of a round key and the round's constant. No
+-- What one turn of the key expansion (FIPS 197, 5.2) computes in the code: the next round key of a round key and the round's constant. No
 -- public promise cites it.
 use Prim.Native.Nat.{ℕ}
 use mathlib.Core.List.{List, [], _∷_, _++_}

@@ -1,4 +1,4 @@
--- A list by the rule of its elements: f 0, f 1, .. , f (n - 1).
+-- A list by the rule of its elements, f 0, f 1, .. , f (n - 1): FIPS 197, 5.1 and 5.3, give each step so, byte by byte.
 use Prim.Native.Nat.{ℕ, zero, suc}
 use mathlib.Core.List.{List, [], _∷_}
 

@@ -1,4 +1,4 @@
--- What private parts of the steps hand to one another.
+-- What private parts of the steps hand to one another (docs/RULES.md, 7.4 and 7.6).
 use Prim.Native.Nat.{ℕ}
 use mathlib.Core.Path.{_≡_}
 use Rattle.refusal.specs.Order.{Res, accept}

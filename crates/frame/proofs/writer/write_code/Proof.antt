@@ -1,5 +1,4 @@
 -- `write_code` keeps its promise: the code covers what was written so far.
-use Prim.Native.Nat.{_+_}
 use native.Mathlib.Omega.{arith}
 use mathlib.Core.Path.{_≡_, sym}
 use lib.ListN.{length}
@@ -15,7 +14,7 @@ slice-aggregate-code-of : tie.Need-slice-aggregate-code-of
 slice-aggregate-code-of c = sym (length-take-le _ (c .before .before .before .before .before .put-next .last .0) (omega (arith, c .before .before .before .before .before .put-next .kept .0, c .before .before .before .before .before .before .before .least-q .ensures, c .before .before .before .before .before .before .before .before .before .pre .1)))
 
 code-of-requires : tie.Need-code-of-requires
-code-of-requires c κs = omega (arith, length-take-le (c .before .before .before .before .before .before .before .before .before .args .k + c .before .before .before .before .before .before .before .least-q .result + 2) (c .before .before .before .before .before .put-next .last .0) (omega (arith, c .before .before .before .before .before .put-next .kept .0, c .before .before .before .before .before .before .before .least-q .ensures, c .before .before .before .before .before .before .before .before .before .pre .1)), c .before .before .before .before .before .before .before .least-q .ensures, c .before .before .before .before .before .before .before .before .before .pre .0)
+code-of-requires c κs = omega (arith, slice-aggregate-code-of c, c .before .before .before .before .before .before .before .least-q .ensures, c .before .before .before .before .before .before .before .before .before .pre .0)
 
 array-share-prefix-code : tie.Need-array-share-prefix-code
 array-share-prefix-code c = let n : length (c .before .before .before .code-of .result .code) ≡ 20 = search needs in omega (arith, c .before .before .code-len .ensures, code-short (c .before .before .before .before .before .before .before .before .before .before .before .before .before .args .s .integrity))

@@ -41,8 +41,7 @@ pub fn block_case(line: &[u8], f: Field, decrypts: bool, out: &mut [u8], c: Curs
     let k = key.bytes;
     let x = b.bytes;
     let y = one_block(k, x, decrypts);
-    let c = text::add(out, c, b"ok ");
-    text::hex(out, c, &y)
+    say::labelled(out, c, b"ok ", &y)
 }
 
 fn blocks(key: [u8; 16], iv: [u8; 16], s: &mut [u8], decrypts: bool) -> Ciphered {
@@ -55,10 +54,7 @@ fn blocks(key: [u8; 16], iv: [u8; 16], s: &mut [u8], decrypts: bool) -> Ciphered
 
 fn told(out: &mut [u8], c: Cursor, r: Ciphered, s: &[u8]) -> Cursor {
     match r {
-        Ciphered::Done => {
-            let c = text::add(out, c, b"ok ");
-            say::bytes(out, c, s)
-        }
+        Ciphered::Done => { say::labelled(out, c, b"ok ", s) }
         Ciphered::Refused(n) => say::refused(out, c, n),
     }
 }
@@ -107,10 +103,6 @@ pub fn keys_case(line: &[u8], f: Field, out: &mut [u8], c: Cursor) -> Cursor {
     }
     let s = sik.bytes;
     let k = Keys::from_sik(s);
-    let k1 = k.k1;
-    let key = k.aes_key();
-    let c = text::add(out, c, b"ok k1 ");
-    let c = text::hex(out, c, &k1);
-    let c = text::add(out, c, b" aes ");
-    text::hex(out, c, &key)
+    let c = text::add(out, c, b"ok ");
+    say::session_keys(out, c, k)
 }

@@ -1,5 +1,6 @@
 // The cases of the hash and of the code.
 ghost use Prim.Native.Nat.{_<_, _≤_};
+use crate::numbers::count_of;
 use crate::say;
 use crate::walk::Field;
 use crate::walk::Got;
@@ -7,13 +8,13 @@ use crate::walk::bytes;
 use crate::walk::last;
 use crate::walk::next;
 use crate::walk::part;
-use crate::walk::text_of;
+use crate::walk::span_of;
+use crate::walk::within;
 use sha1::Hashed;
 use sha1::Outcome;
 use sha1::Sha1;
 use sha1::Sha1Hmac;
 use text::Cursor;
-use text::Number;
 
 // `ok DIGEST blocks B`, or the refusal.
 fn told(out: &mut [u8], c: Cursor, h: Hashed) -> Cursor {
@@ -21,8 +22,7 @@ fn told(out: &mut [u8], c: Cursor, h: Hashed) -> Cursor {
     match a {
         Outcome::Done => {
             let digest = h.digest;
-            let c = text::add(out, c, b"ok ");
-            let c = text::hex(out, c, &digest);
+            let c = say::labelled(out, c, b"ok ", &digest);
             say::blocks(out, c, h.blocks)
         }
         Outcome::Refused(r) => {
@@ -44,56 +44,16 @@ pub fn sha1_case(line: &[u8], f: Field, buf: &mut [u8], out: &mut [u8], c: Curso
     }
 }
 
-// A key and what stands after it, one after the other in a buffer.
-struct Keyed {
-    ok: bool,
-    key: usize,
-    end: usize,
-}
-
-fn key_and_data(line: &[u8], f: Field, buf: &mut [u8]) -> Keyed {
-    let f = next(line, f);
-    let Got::Bytes(k) = bytes(line, f, buf, 0) else {
-        return Keyed {
-            ok: false,
-            key: 0,
-            end: 0,
-        };
-    };
-    let f = next(line, f);
-    let Got::Bytes(n) = bytes(line, f, buf, k) else {
-        return Keyed {
-            ok: false,
-            key: 0,
-            end: 0,
-        };
-    };
-    Keyed {
-        ok: last(line, f),
-        key: k,
-        end: sum(k, n),
-    }
-}
-
 // `hmac KEY DATA`.
 pub fn hmac_case(line: &[u8], f: Field, buf: &mut [u8], out: &mut [u8], c: Cursor) -> Cursor {
-    let t = key_and_data(line, f, buf);
-    if !t.ok {
+    let f = next(line, f);
+    let key = span_of(line, f, buf, 0);
+    let f = next(line, f);
+    let data = span_of(line, f, buf, key.to);
+    if key.bad || data.bad || !last(line, f) {
         return say::bad_line(out, c);
     }
-    let k = t.key;
-    let end = t.end;
-    told(out, c, sha1::hmac(part(buf, 0, k), part(buf, k, end)))
-}
-
-// The sum, where there is one; else no place of a buffer.
-fn sum(a: usize, b: usize) -> usize {
-    if a < 0x1000_0000 {
-        if b < 0x1000_0000 {
-            return a + b;
-        }
-    }
-    0
+    told(out, c, sha1::hmac(within(buf, key), within(buf, data)))
 }
 
 // What has been read and fed of `pieces`.
@@ -253,21 +213,5 @@ pub fn zeros_case(line: &[u8], f: Field, coded: bool, out: &mut [u8], c: Cursor)
         told(out, c, hmac_zeros(&zero, n.n, k))
     } else {
         told(out, c, zeros(&zero, n.n, k))
-    }
-}
-
-struct Count {
-    bad: bool,
-    n: u32,
-}
-
-// A decimal field that is at most `most`, which fits.
-fn count_of(line: &[u8], f: Field, most: u32) -> Count {
-    match text::undecimal(text_of(line, f), most as u64) {
-        Number::Value(v) => Count {
-            bad: false,
-            n: (v % 0x1_0000_0000) as u32,
-        },
-        Number::Bad => Count { bad: true, n: 0 },
     }
 }

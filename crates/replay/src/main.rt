@@ -5,8 +5,12 @@ ghost use lib.ListN.{length};
 
 mod cases;
 mod ciphers;
+mod frames;
 mod hashes;
+mod numbers;
 mod say;
+mod script;
+mod steps;
 mod walk;
 
 use text::Cursor;
@@ -140,17 +144,24 @@ fn run(piece: &mut [u8], line: &mut [u8], bytes: &mut [u8], out: &mut [u8]) {
     }
 }
 
-// The longest line that is taken, and room for the longest answer.
+// The longest line that is taken.
 fn large() -> [u8; 524288]
     ensures { λ r. ⌜ 524288 ≡ length r ⌝ }
 {
     [0u8; 524288]
 }
 
+// Room for the longest answer, which is to a script of nothing but `begin`: three times as long as the line.
+fn largest() -> [u8; 2097152]
+    ensures { λ r. ⌜ 2097152 ≡ length r ⌝ }
+{
+    [0u8; 2097152]
+}
+
 fn main() {
     let mut piece = io::large_buffer();
     let mut line = large();
     let mut bytes = large();
-    let mut out = large();
+    let mut out = largest();
     run(&mut piece, &mut line, &mut bytes, &mut out);
 }

@@ -79,6 +79,44 @@ pub fn bytes(line: &[u8], f: Field, out: &mut [u8], at: usize) -> Got {
     }
 }
 
+// The sum, where there is one; else no place of a buffer.
+pub fn sum(a: usize, b: usize) -> usize {
+    if a < 0x1000_0000 {
+        if b < 0x1000_0000 {
+            return a + b;
+        }
+    }
+    0
+}
+
+// Where the bytes of a field stand in a buffer that holds those of several.
+pub struct Span {
+    pub bad: bool,
+    pub from: usize,
+    pub to: usize,
+}
+
+pub fn span_of(line: &[u8], f: Field, out: &mut [u8], at: usize) -> Span {
+    match bytes(line, f, out, at) {
+        Got::Bytes(n) => Span {
+            bad: false,
+            from: at,
+            to: sum(at, n),
+        },
+        Got::Bad => Span {
+            bad: true,
+            from: 0,
+            to: 0,
+        },
+    }
+}
+
+pub fn within(s: &[u8], p: Span) -> &[u8] {
+    let from = p.from;
+    let to = p.to;
+    part(s, from, to)
+}
+
 pub struct Block {
     pub ok: bool,
     pub bytes: [u8; 16],

@@ -1,0 +1,30 @@
+-- `all_calls` is safe and ends: it goes by the count of calls, and the buffers keep their lengths.
+use Prim.Native.Nat.{_-_}
+use mathlib.Core.Path.{_≡_}
+use lib.ListN.{length}
+use borrow.Author.Needs.{needs}
+use Rattle.replay.proofs.script.all_calls.Statement.{statement}
+use Rattle.replay.proofs.script.all_calls.Tie as tie
+
+abbrev Inv-loop : tie.InvT-loop
+Inv-loop rest buf₀ out₀ s₀ n k₀ buf out s k = (length buf ≡ length buf₀) × (length out ≡ length out₀)
+
+abbrev μ-loop : tie.MeasureT-loop
+μ-loop rest buf₀ out₀ s₀ n k₀ buf out s k = n - k
+
+pub all-calls-spec : {M : Type 1} → statement M
+all-calls-spec =
+    tie.close
+    (tie.spec
+    Inv-loop
+    μ-loop
+    (λ c κs. search needs)
+    (λ c κs. search needs)
+    (λ c. search needs)
+    (λ c κs. search needs)
+    (λ c. search needs)
+    (λ c. search needs)
+    (λ c. search needs)
+    (λ c. search needs)
+    (λ c. search needs)
+    (λ c. search needs))

@@ -20,6 +20,7 @@ use Rattle.frame.specs.declared.Read.{Read}
 use Rattle.frame.specs.declared.Written.{Written}
 use Rattle.frame.specs.declared.Written as written
 use Rattle.frame.specs.declared.Written.the-variants.{Length}
+use Rattle.frame.proofs.PayloadType.number.Reads as number-reads
 use Rattle.frame.proofs.code_len.Reads as code-len-reads
 use Rattle.frame.proofs.place.payload.Reads as payload-reads
 use Rattle.frame.proofs.opening.read_payload.Reads as read-payload-reads
@@ -73,6 +74,9 @@ promise-one R n left a b x y p q =
     let e : a .answer ≡ b .answer = reading-one _ _ (p .tells .answer ∙ sym (q .tells .answer)) in
     let f : a .blocks ≡ b .blocks = p .tells .count ∙ sym (q .tells .count) in
     (λ i. record { answer = e i; blocks = f i }, p .buffer ∙ sym (q .buffer))
+
+pub number-only : (κs : _) (args : _) (a b : _) (s t : _) → number-reads.Post κs args a s → number-reads.Post κs args b t → a ≡ b
+number-only κs args a b s t p q = p .0 ∙ sym (q .0)
 
 pub code-len-only : (κs : _) (args : _) (a b : _) (s t : _) → code-len-reads.Post κs args a s → code-len-reads.Post κs args b t → a ≡ b
 code-len-only κs args a b s t p q = p ∙ sym q

@@ -1,6 +1,7 @@
 // Session packets and datagrams: the reader, the writer, and the payload's place.
 ghost use mathlib.Core.Path.{_≡_};
-ghost use Rattle.frame.specs.Types.{codeLength, encrypts, carriesCode};
+ghost use Prim.Native.Nat.{_<_};
+ghost use Rattle.frame.specs.Types.{typeNumber, codeLength, encrypts, carriesCode};
 ghost use Rattle.frame.specs.Packet.{bit};
 use keys::Keys;
 use refusal::Refusal;
@@ -27,6 +28,24 @@ pub enum PayloadType {
     RakpMessage2,
     RakpMessage3,
     RakpMessage4,
+}
+
+impl PayloadType {
+    // The number that stands for the type in a packet, which has six bits for it.
+    pub fn number(self) -> u8
+        ensures { λ r. ⌜ (r ≡ typeNumber self) × (r < 64) ⌝ }
+    {
+        match self {
+            PayloadType::IpmiMessage => 0x00,
+            PayloadType::Sol => 0x01,
+            PayloadType::RmcpPlusOpenSessionRequest => 0x10,
+            PayloadType::RmcpPlusOpenSessionResponse => 0x11,
+            PayloadType::RakpMessage1 => 0x12,
+            PayloadType::RakpMessage2 => 0x13,
+            PayloadType::RakpMessage3 => 0x14,
+            PayloadType::RakpMessage4 => 0x15,
+        }
+    }
 }
 
 // The algorithms that a session can use.

@@ -88,22 +88,6 @@ fn room_for(s: SubState, n: usize, before: usize, room: usize) -> Step
     Step::Go(size)
 }
 
-// The number that stands for a type.
-fn type_number(ty: PayloadType) -> u8
-    ensures { λ r. ⌜ (r ≡ typeNumber ty) × (r < 64) ⌝ }
-{
-    match ty {
-        PayloadType::IpmiMessage => 0x00,
-        PayloadType::Sol => 0x01,
-        PayloadType::RmcpPlusOpenSessionRequest => 0x10,
-        PayloadType::RmcpPlusOpenSessionResponse => 0x11,
-        PayloadType::RakpMessage1 => 0x12,
-        PayloadType::RakpMessage2 => 0x13,
-        PayloadType::RakpMessage3 => 0x14,
-        PayloadType::RakpMessage4 => 0x15,
-    }
-}
-
 // The twelve bytes before a body of n bytes.
 fn header(s: SubState, ty: PayloadType, id: u32, seq: u32, n: usize) -> [u8; 12]
     requires { ⌜ n ≤ 65535 ⌝ }
@@ -111,7 +95,7 @@ fn header(s: SubState, ty: PayloadType, id: u32, seq: u32, n: usize) -> [u8; 12]
 {
     let c = s.confidentiality;
     let i = s.integrity;
-    let flags = 128 * crate::aes_bit(c) + 64 * crate::code_bit(i) + type_number(ty);
+    let flags = 128 * crate::aes_bit(c) + 64 * crate::code_bit(i) + ty.number();
     [
         0x06,
         flags,

@@ -21,11 +21,11 @@ add-flags : tie.Need-add-flags
 add-flags c = record { fits = omega (arith, c .before .aes-bit .ensures, bit-small (encrypts (c .before .before .args .s .confidentiality)), c .code-bit .ensures, bit-small (carriesCode (c .before .before .args .s .integrity))) }
 
 add-flags-2 : tie.Need-add-flags-2
-add-flags-2 c = record { fits = omega (arith, c .before .before .aes-bit .ensures, bit-small (encrypts (c .before .before .before .args .s .confidentiality)), c .before .code-bit .ensures, bit-small (carriesCode (c .before .before .before .args .s .integrity)), c .type-number .ensures .1) }
+add-flags-2 c = record { fits = omega (arith, c .before .before .aes-bit .ensures, bit-small (encrypts (c .before .before .before .args .s .confidentiality)), c .before .code-bit .ensures, bit-small (carriesCode (c .before .before .before .args .s .integrity)), c .number .ensures .1) }
 
 returns : tie.Need-returns
 unfolding headerOf
-returns c = let a = c .before .before .before .args in ap (λ (f : ℕ). 0x06 ∷ f ∷ (le 4 (a .id) ++ (le 4 (a .seq) ++ le 2 (a .n)))) (λ i. 128 * (c .before .before .aes-bit .ensures) i + 64 * (c .before .code-bit .ensures) i + (c .type-number .ensures .0) i)
+returns c = let a = c .before .before .before .args in ap (λ (f : ℕ). 0x06 ∷ f ∷ (le 4 (a .id) ++ (le 4 (a .seq) ++ le 2 (a .n)))) (λ i. 128 * (c .before .before .aes-bit .ensures) i + 64 * (c .before .code-bit .ensures) i + (c .number .ensures .0) i)
 
 pub header-spec : {M : Type 1} → statement M
 header-spec =

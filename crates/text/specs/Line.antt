@@ -33,11 +33,18 @@ refusedWord = 0x72 ∷ 0x65 ∷ 0x66 ∷ 0x75 ∷ 0x73 ∷ 0x65 ∷ 0x64 ∷ 0x2
 abbrev pub newline : List ℕ
 newline = 0x0a ∷ []
 
--- type and length in decimal, ids as eight hex digits; of a refusal its number alone
-abbrev pub lineOf : Outcome → List ℕ
-lineOf (Packet kind id seq len) =
+-- a packet's line, by its numbers: type and length in decimal, ids as eight hex digits
+abbrev pub packetLine : ℕ → ℕ → ℕ → ℕ → List ℕ
+packetLine kind id seq len =
     typeWord ++ decimal kind ++ idWord ++ hex8 id ++ seqWord ++ hex8 seq ++ payloadWord ++ decimal len ++ newline
-lineOf (Refused r) = refusedWord ++ decimal (numberOf r) ++ newline
+
+-- a refusal's line: its number alone
+abbrev pub refusedLine : ℕ → List ℕ
+refusedLine n = refusedWord ++ decimal n ++ newline
+
+abbrev pub lineOf : Outcome → List ℕ
+lineOf (Packet kind id seq len) = packetLine kind id seq len
+lineOf (Refused r) = refusedLine (numberOf r)
 
 -- the line l stands at the start of what was d, and n is its length
 pub record Begins (d l : List ℕ) (n : ℕ) (exit : List ℕ) : Type 0 where

@@ -1,0 +1,3 @@
+pub mod Keyless
+pub mod Telling
+pub mod Only

@@ -1,0 +1,66 @@
+-- What the small program tells of a packet (docs/RULES.md, 8.1 and 8.2).
+use Prim.Native.Nat.{ℕ}
+use mathlib.Core.Bool.{false}
+use mathlib.Core.List.{List, []}
+use mathlib.Core.Path.{_≡_}
+use lib.Dec.{leb, ltb}
+use lib.ListN.{length}
+use Rattle.refusal.specs.Table.{numberOf, valueOf}
+use Rattle.refusal.specs.Order.{Res, refuse, accept, need}
+use Rattle.frame.specs.Types.{codeLength}
+use Rattle.frame.specs.Suite.{Suite}
+use Rattle.frame.specs.Read.{readOf}
+use Rattle.frame.specs.Answers.{Shown, shown}
+use Rattle.frame.specs.declared.Confidentiality as C
+use Rattle.frame.specs.declared.Integrity as I
+use Rattle.frame.specs.declared.SubState.{SubState}
+use Rattle.text.specs.Line.{packetLine, refusedLine}
+use Rattle.text.specs.Promise.{AddPromise}
+use Rattle.text.specs.declared.write.Cursor.{Cursor}
+use Rattle.text.specs.declared.packet.Outcome.{Outcome}
+use Rattle.text.specs.declared.packet.Outcome.the-variants.{Packet, Refused}
+
+-- the longest packet that is read
+abbrev pub longest : ℕ
+longest = 4096
+
+-- a session with neither algorithm. It has no keys: no code is made, and what would be encrypted stays as it is. The length of
+-- a code stands in the ceiling alone.
+abbrev pub plain : Suite
+plain = record { aes = false; auth = false; m = codeLength I.the-variants.None; mac = λ l. []; blocks = λ n. 0; enc = λ iv l. l; dec = λ iv l. l }
+
+-- a session of the code with neither algorithm, whatever its keys are
+pub record Bare (s : SubState) : Type 0 where
+  pub confidentiality : s .confidentiality ≡ C.the-variants.None
+  pub integrity : s .integrity ≡ I.the-variants.None
+
+-- what is found: the length is looked at first, then the packet is read
+unfoldable pub found : List ℕ → Res Shown
+found l =
+    need (ltb 0 (length l)) 1 0
+    (need (leb (length l) longest) 15 0
+    (shown (readOf plain l)))
+
+-- its line: of a packet the type, the ids and the payload's length, of a refusal the number and not what it carries
+abbrev pub lineFor : Res Shown → List ℕ
+lineFor (refuse n v) = refusedLine n
+lineFor (accept M) = packetLine (M .ty) (M .id) (M .seq) (M .len)
+
+-- the line that tells of a packet
+unfoldable pub told : List ℕ → List ℕ
+told l = lineFor (found l)
+
+-- an outcome by its numbers
+abbrev pub outcomeTold : Outcome → Res Shown
+outcomeTold (Packet kind id seq len) = accept (record { ty = kind; id = id; seq = seq; len = len })
+outcomeTold (Refused r) = refuse (numberOf r) (valueOf r)
+
+-- the packet l was read: what was found, and that no byte of it changed
+pub record Finds (l : List ℕ) (o : Outcome) (left : List ℕ) : Type 0 where
+  pub answer : outcomeTold o ≡ found l
+  pub packet : left ≡ l
+
+-- the line of the packet l was to be added to d at the cursor c
+pub record TellPromise (l d : List ℕ) (c r : Cursor) (left exit : List ℕ) : Type 0 where
+  pub line : AddPromise d c (told l) r exit
+  pub packet : left ≡ l

@@ -1,11 +1,9 @@
 // What became of one packet, as a line: the small program's work, which the program only feeds and prints.
 ghost use mathlib.Core.Path.{_≡_};
-ghost use Rattle.frame.specs.Types.{typeNumber};
 ghost use Rattle.frame.specs.Answers.{readTold};
 ghost use Rattle.report.specs.Told.{Bare, outcomeTold, Finds, TellPromise};
 use frame::Confidentiality;
 use frame::Integrity;
-use frame::PayloadType;
 use frame::Reading;
 use frame::SubState;
 use keys::Keys;
@@ -15,22 +13,6 @@ use text::Outcome;
 
 // The longest packet that is read.
 pub const LONGEST: usize = 4096;
-
-// The number that stands for a type.
-fn number_of(ty: PayloadType) -> u8
-    ensures { λ r. ⌜ r ≡ typeNumber ty ⌝ }
-{
-    match ty {
-        PayloadType::IpmiMessage => 0x00,
-        PayloadType::Sol => 0x01,
-        PayloadType::RmcpPlusOpenSessionRequest => 0x10,
-        PayloadType::RmcpPlusOpenSessionResponse => 0x11,
-        PayloadType::RakpMessage1 => 0x12,
-        PayloadType::RakpMessage2 => 0x13,
-        PayloadType::RakpMessage3 => 0x14,
-        PayloadType::RakpMessage4 => 0x15,
-    }
-}
 
 // A reading as a line has it.
 fn outcome_of(a: Reading) -> Outcome
@@ -43,7 +25,7 @@ fn outcome_of(a: Reading) -> Outcome
             session_sequence_number,
             len,
         } => Outcome::Packet {
-            kind: number_of(ty),
+            kind: ty.number(),
             id: session_id,
             seq: session_sequence_number,
             len,

@@ -6,7 +6,7 @@ use Rattle.report.proofs.outcome_of.Statement.{statement}
 use Rattle.report.proofs.outcome_of.Tie as tie
 
 returns : tie.Need-returns
-returns c = rw (c .before .before .a .given .1, c .number-of .ensures)
+returns c = rw (c .before .before .a .given .1, c .number .ensures .0)
 
 returns-2 : tie.Need-returns-2
 returns-2 c = sym (ap readTold (c .before .a2 .given .1))

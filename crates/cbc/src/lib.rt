@@ -14,7 +14,8 @@ pub enum Ciphered {
     Refused(Refusal),
 }
 
-fn xor_block(a: [u8; 16], b: [u8; 16]) -> [u8; 16]
+// The sum of two blocks, bit by bit.
+pub fn xor_block(a: [u8; 16], b: [u8; 16]) -> [u8; 16]
     ensures { λ r. ⌜ r ≡ xorBlock a b ⌝ }
 {
     [

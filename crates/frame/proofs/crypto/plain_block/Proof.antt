@@ -9,7 +9,7 @@ use Rattle.frame.proofs.crypto.plain_block.Statement.{statement}
 use Rattle.frame.proofs.crypto.plain_block.Tie as tie
 
 returns : tie.Need-returns
-returns c = let a = c .before .before .before .before .before .args in let p = c .before .before .before .before .before .pre in c .sum-block .ensures ∙ ap₂ xorBlock (c .before .decrypt-block .ensures ∙ ap (invCipher (keysOf (a .w))) (c .before .before .before .block-at .ensures)) (c .before .before .block-at2 .ensures) ∙ body-block (keysOf (a .w)) (a .body .now) (a .at) (p .0) (p .1) (p .2)
+returns c = let a = c .before .before .before .before .before .args in let p = c .before .before .before .before .before .pre in c .xor-block .ensures ∙ ap₂ xorBlock (c .before .decrypt-block .ensures ∙ ap (invCipher (keysOf (a .w))) (c .before .before .before .block-at .ensures)) (c .before .before .block-at2 .ensures) ∙ body-block (keysOf (a .w)) (a .body .now) (a .at) (p .0) (p .1) (p .2)
 
 pub plain-block-spec : {M : Type 1} → statement M
 plain-block-spec =

@@ -27,24 +27,13 @@ pub(crate) fn code_of(key: [u8; 20], s: &[u8]) -> Code
     }
 }
 
-// Sixteen bytes, copied.
-pub(crate) fn block_at(s: &[u8], at: usize) -> [u8; 16]
-    requires { ⌜ at + 16 ≤ length (now s) ⌝ }
-    ensures { λ r. ⌜ r ≡ part (now (s .entry)) at 16 ⌝ }
-{
-    let mut b = [0u8; 16];
-    let end = at + 16;
-    octets::put(&mut b, 0, &s[at..end]);
-    b
-}
-
 // The block of plain text at `at` of an encrypted body: the inverse cipher of that block, and the block before it added.
 pub(crate) fn plain_block(w: Aes128, body: &[u8], at: usize) -> [u8; 16]
     requires { ⌜ (16 ≤ at) × (at % 16 ≡ 0) × (at + 16 ≤ length (now body)) ⌝ }
     ensures { λ r. ⌜ r ≡ part (uncbc (keysOf w) (take 16 (now (body .entry))) (drop 16 (now (body .entry)))) (at - 16) 16 ⌝ }
 {
-    let cipher = block_at(body, at);
-    let before = block_at(body, at - 16);
+    let cipher = octets::block(body, at);
+    let before = octets::block(body, at - 16);
     let plain = w.decrypt_block(cipher);
     cbc::xor_block(plain, before)
 }

@@ -1,5 +1,4 @@
 pub mod Run
-pub mod Read
 pub mod Blocks
 pub mod Inverse
 pub mod Promise

@@ -1,8 +1,7 @@
 // Cipher block chaining with AES-128 (SP 800-38A), in place.
 ghost use mathlib.Core.Path.{_≡_};
-ghost use Prim.Native.Nat.{_+_, _/_, _%_, _≤_};
+ghost use Prim.Native.Nat.{_/_, _%_};
 ghost use lib.ListN.{length};
-ghost use Rattle.octets.specs.Place.{part};
 ghost use Rattle.aes.specs.Schedule.{keysOf};
 ghost use Rattle.cbc.specs.Cbc.{xorBlock, encryptBlocks, decryptBlocks, cbcEncrypt, cbcDecrypt};
 ghost use Rattle.cbc.specs.Promise.{CbcPromise};
@@ -14,7 +13,8 @@ pub enum Ciphered {
     Refused(Refusal),
 }
 
-fn xor_block(a: [u8; 16], b: [u8; 16]) -> [u8; 16]
+// The sum of two blocks, bit by bit.
+pub fn xor_block(a: [u8; 16], b: [u8; 16]) -> [u8; 16]
     ensures { λ r. ⌜ r ≡ xorBlock a b ⌝ }
 {
     [
@@ -37,30 +37,6 @@ fn xor_block(a: [u8; 16], b: [u8; 16]) -> [u8; 16]
     ]
 }
 
-fn read_block(s: &[u8], at: usize) -> [u8; 16]
-    requires { ⌜ at + 16 ≤ length (now s) ⌝ }
-    ensures { λ r. ⌜ r ≡ part (now (s .entry)) at 16 ⌝ }
-{
-    [
-        s[at],
-        s[at + 1],
-        s[at + 2],
-        s[at + 3],
-        s[at + 4],
-        s[at + 5],
-        s[at + 6],
-        s[at + 7],
-        s[at + 8],
-        s[at + 9],
-        s[at + 10],
-        s[at + 11],
-        s[at + 12],
-        s[at + 13],
-        s[at + 14],
-        s[at + 15],
-    ]
-}
-
 fn encrypt_blocks(a: Aes128, iv: [u8; 16], s: &mut [u8])
     requires { ⌜ length (now s) % 16 ≡ 0 ⌝ }
     ensures { λ _. ⌜ now (s .exit) ≡ encryptBlocks (keysOf a) iv (length (now (s .entry)) / 16) (now (s .entry)) ⌝ }
@@ -69,7 +45,7 @@ fn encrypt_blocks(a: Aes128, iv: [u8; 16], s: &mut [u8])
     let mut v = iv;
     let mut i: usize = 0;
     while i < n {
-        let b = read_block(s, 16 * i);
+        let b = octets::block(s, 16 * i);
         v = a.encrypt_block(xor_block(b, v));
         octets::put(s, 16 * i, &v);
         i += 1;
@@ -84,7 +60,7 @@ fn decrypt_blocks(a: Aes128, iv: [u8; 16], s: &mut [u8])
     let mut v = iv;
     let mut i: usize = 0;
     while i < n {
-        let b = read_block(s, 16 * i);
+        let b = octets::block(s, 16 * i);
         let p = xor_block(a.decrypt_block(b), v);
         octets::put(s, 16 * i, &p);
         v = b;

@@ -1,10 +1,10 @@
--- Blocks copied out of a list, and the tail of the plain text put together from them.
-use Prim.Native.Nat.{ℕ, _+_, _-_, _≤_}
+-- The tail of the plain text, put together from blocks.
+use Prim.Native.Nat.{ℕ, _+_, _≤_}
 use native.Mathlib.Omega.{arith}
 use mathlib.Core.Bool.{Bool}
-use mathlib.Core.List.{List, _++_, append-nil, append-assoc}
+use mathlib.Core.List.{List, _++_, append-assoc}
 use mathlib.Core.Path.{_≡_, sym, _∙_, ap, ap₂}
-use lib.ListN.{length, take, drop, length-drop, drop-of-length-le, length-append}
+use lib.ListN.{length, take, drop, length-drop, length-append}
 use lib.Seq.{length-take-le, take-add, drop-drop, take-at}
 use Rattle.octets.specs.Place.{part, pasted}
 use Rattle.octets.specs.Promise.{PutPromise}
@@ -13,17 +13,6 @@ use Rattle.octets.proofs.Place.{put-done}
 -- a part of as many bytes as asked for
 pub length-part : (l : List ℕ) (a n : ℕ) → a + n ≤ length l → length (part l a n) ≡ n
 length-part l a n h = length-take-le n (drop a l) (omega (arith, length-drop a l))
-
--- sixteen bytes put over sixteen
-pub block-put : (d l : List ℕ) (a : ℕ) (r : Bool) (x : List ℕ) → length d ≡ 16 → a + 16 ≤ length l → PutPromise d 0 (take (a + 16 - a) (drop a l)) r x → x ≡ part l a 16
-unfolding pasted
-block-put d l a r x hd h p =
-    let size : a + 16 - a ≡ 16 = omega arith in
-    let s : take (a + 16 - a) (drop a l) ≡ part l a 16 = ap (λ (k : ℕ). take k (drop a l)) size in
-    let long : length (take (a + 16 - a) (drop a l)) ≡ 16 = ap length s ∙ length-part l a 16 h in
-    let fits : 0 + length (take (a + 16 - a) (drop a l)) ≤ length d = omega arith in
-    let over : length d ≤ 0 + length (take (a + 16 - a) (drop a l)) = omega arith in
-    put-done d 0 _ r x p fits ∙ ap (λ (y : List ℕ). take (a + 16 - a) (drop a l) ++ y) (drop-of-length-le d over) ∙ append-nil _ ∙ s
 
 -- one block more of a tail
 pub tail-turn : (d x b y : List ℕ) (a i : ℕ) (r : Bool) → take i d ≡ part x a i → b ≡ part x (a + i) 16 → length b ≡ 16 → i + 16 ≤ length d → PutPromise d i b r y

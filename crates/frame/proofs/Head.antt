@@ -7,8 +7,9 @@ use mathlib.Core.Path.{_≡_, refl, sym, _∙_, ap}
 use lib.ListN.{length, getD, drop}
 use borrow.Author.Tests.{le-leb, lt-leb, eq-eqb, ne-eqb}
 use Rattle.refusal.specs.Order.{Res, refuse, accept, need}
+use Rattle.refusal.specs.Table.{among}
 use Rattle.refusal.proofs.Order.{pass, need-no, need-inv, refuse≢accept}
-use Rattle.frame.specs.Types.{known, among, typeNumbers, codeLength}
+use Rattle.frame.specs.Types.{known, typeNumbers, codeLength}
 use Rattle.frame.specs.declared.Integrity as I
 use Rattle.frame.specs.Suite.{Suite}
 use Rattle.frame.specs.Packet.{bit}

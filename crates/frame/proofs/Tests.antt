@@ -6,7 +6,8 @@ use mathlib.Core.List.{List, [], _∷_}
 use mathlib.Core.Path.{_≡_, refl, sym, _∙_, ap}
 use lib.Dec.{eqb, ltb}
 use borrow.Author.Tests.{eqb-true, ltb-true}
-use Rattle.frame.specs.Types.{among, known, typeNumbers}
+use Rattle.refusal.specs.Table.{among}
+use Rattle.frame.specs.Types.{known, typeNumbers}
 use Rattle.frame.specs.Packet.{bit}
 
 -- a Bool is one of two

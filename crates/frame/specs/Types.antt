@@ -1,8 +1,8 @@
 -- The payload types and the session's algorithms (docs/RULES.md, 6.1 to 6.4).
 use Prim.Native.Nat.{ℕ}
-use mathlib.Core.Bool.{Bool, true, false, _||_}
+use mathlib.Core.Bool.{Bool, true, false}
 use mathlib.Core.List.{List, [], _∷_}
-use lib.Dec.{eqb}
+use Rattle.refusal.specs.Table.{among}
 use Rattle.frame.specs.declared.PayloadType.{PayloadType}
 use Rattle.frame.specs.declared.PayloadType.the-variants.{IpmiMessage, Sol, RmcpPlusOpenSessionRequest, RmcpPlusOpenSessionResponse, RakpMessage1, RakpMessage2, RakpMessage3, RakpMessage4}
 use Rattle.frame.specs.declared.Confidentiality as C
@@ -18,10 +18,6 @@ typeNumber RakpMessage1 = 0x12
 typeNumber RakpMessage2 = 0x13
 typeNumber RakpMessage3 = 0x14
 typeNumber RakpMessage4 = 0x15
-
-abbrev pub among : ℕ → List ℕ → Bool
-among x [] = false
-among x (y ∷ l) = eqb x y || among x l
 
 abbrev pub typeNumbers : List ℕ
 typeNumbers = 0x00 ∷ 0x01 ∷ 0x10 ∷ 0x11 ∷ 0x12 ∷ 0x13 ∷ 0x14 ∷ 0x15 ∷ []

@@ -5,7 +5,7 @@ ghost use lib.ListN.{length, take, drop};
 ghost use Rattle.octets.specs.Place.{part};
 ghost use Rattle.sha1.specs.Mac.{hmacSha1};
 ghost use Rattle.aes.specs.Schedule.{keysOf};
-ghost use Rattle.cbc.specs.Cbc.{xorBlock, cbcEncrypt, cbcDecrypt};
+ghost use Rattle.cbc.specs.Cbc.{cbcEncrypt, cbcDecrypt};
 ghost use Rattle.frame.specs.Crypto.{macBlocks, uncbc};
 use aes::Aes128;
 
@@ -27,49 +27,15 @@ pub(crate) fn code_of(key: [u8; 20], s: &[u8]) -> Code
     }
 }
 
-// Sixteen bytes, copied.
-pub(crate) fn block_at(s: &[u8], at: usize) -> [u8; 16]
-    requires { ⌜ at + 16 ≤ length (now s) ⌝ }
-    ensures { λ r. ⌜ r ≡ part (now (s .entry)) at 16 ⌝ }
-{
-    let mut b = [0u8; 16];
-    let end = at + 16;
-    octets::put(&mut b, 0, &s[at..end]);
-    b
-}
-
-fn sum_block(a: [u8; 16], b: [u8; 16]) -> [u8; 16]
-    ensures { λ r. ⌜ r ≡ xorBlock a b ⌝ }
-{
-    [
-        a[0] ^ b[0],
-        a[1] ^ b[1],
-        a[2] ^ b[2],
-        a[3] ^ b[3],
-        a[4] ^ b[4],
-        a[5] ^ b[5],
-        a[6] ^ b[6],
-        a[7] ^ b[7],
-        a[8] ^ b[8],
-        a[9] ^ b[9],
-        a[10] ^ b[10],
-        a[11] ^ b[11],
-        a[12] ^ b[12],
-        a[13] ^ b[13],
-        a[14] ^ b[14],
-        a[15] ^ b[15],
-    ]
-}
-
 // The block of plain text at `at` of an encrypted body: the inverse cipher of that block, and the block before it added.
 pub(crate) fn plain_block(w: Aes128, body: &[u8], at: usize) -> [u8; 16]
     requires { ⌜ (16 ≤ at) × (at % 16 ≡ 0) × (at + 16 ≤ length (now body)) ⌝ }
     ensures { λ r. ⌜ r ≡ part (uncbc (keysOf w) (take 16 (now (body .entry))) (drop 16 (now (body .entry)))) (at - 16) 16 ⌝ }
 {
-    let cipher = block_at(body, at);
-    let before = block_at(body, at - 16);
+    let cipher = octets::block(body, at);
+    let before = octets::block(body, at - 16);
     let plain = w.decrypt_block(cipher);
-    sum_block(plain, before)
+    cbc::xor_block(plain, before)
 }
 
 pub(crate) fn decrypt(key: [u8; 16], iv: [u8; 16], s: &mut [u8])

@@ -36,7 +36,7 @@ fn decrypt_body(s: SubState, packet: &mut [u8])
     ensures { λ _. ⌜ now (packet .exit) ≡ pasted (now (packet .entry)) 28 (suiteOf s .dec (part (now (packet .entry)) 12 16) (part (now (packet .entry)) 28 (bodyLength (now (packet .entry)) - 16))) ⌝ }
 {
     let n = octets::load_le2(packet, 10) as usize;
-    let iv = crypto::block_at(packet, 12);
+    let iv = octets::block(packet, 12);
     let keys = s.keys;
     let key = keys.aes_key();
     let end = 12 + n;

@@ -1,5 +1,5 @@
 -- Laws of names: one for each return of the functions that make one or ask its length.
-use Prim.Native.Nat.{ℕ, zero, suc, _+_, _-_, _<_, _≤_}
+use Prim.Native.Nat.{ℕ, suc, _+_, _-_, _<_, _≤_}
 use native.Mathlib.Omega.{arith}
 use native.Mathlib.Numerals.{add-one}
 use mathlib.Core.Bool.{Bool, true, false, not, _&&_}
@@ -12,9 +12,9 @@ use borrow.Author.Tests.{eq-eqb, ne-eqb, lt-ltb, le-ltb}
 use Rattle.refusal.specs.Order.{Res, refuse, accept}
 use Rattle.refusal.specs.declared.Refusal.the-variants.{InvalidUsername}
 use Rattle.refusal.proofs.Order.{pass, need-no}
-use Rattle.octets.specs.Place.{begun}
+use Rattle.octets.specs.Place.{filled}
 use Rattle.octets.specs.Promise.{PutPromise}
-use Rattle.octets.proofs.Place.{put-done, begun-first}
+use Rattle.octets.proofs.Filled.{put-filled}
 use Rattle.messages.specs.Name.{allowed, usernameOf, nameOf, stored}
 use Rattle.messages.specs.Promises.{NamePromise, verdict, heldName}
 use Rattle.messages.specs.declared.rakp.Test.the-variants.{Passed, Refused}
@@ -58,13 +58,6 @@ first-short l h =
     let b : length l ≤ length l = omega arith in
     take-all 16 l a ∙ sym (take-all (length l) l b)
 
-drop-replicate : (n k : ℕ) → drop {A = ℕ} n (replicate k 0) ≡ replicate (k - n) 0
-drop-replicate zero k = let e : k - 0 ≡ k = omega arith in ap (λ (j : ℕ). replicate {A = ℕ} j 0) (sym e)
-drop-replicate (suc n) zero = let e : zero - suc n ≡ 0 = omega arith in ap (λ (j : ℕ). replicate {A = ℕ} j 0) (sym e)
-drop-replicate (suc n) (suc k) =
-    let e : suc k - suc n ≡ k - n = omega arith in
-    drop-replicate n k ∙ ap (λ (j : ℕ). replicate {A = ℕ} j 0) (sym e)
-
 abbrev made : List ℕ → ℕ → Username
 made x n = record { bytes = x; len = n }
 
@@ -82,14 +75,12 @@ module _ (l : List ℕ) (n : ℕ) (e : take 16 l ≡ take n l) (t : Bool) (f : t
 
   pub name-yes : (x : List ℕ) (r : Bool) → t ≡ true → n ≤ length l → n ≤ 16 → PutPromise (replicate 16 0) 0 (take n l) r x
       → NamePromise (usernameOf l) (record { answer = Passed; username = record { bytes = x; len = n } })
-  unfolding usernameOf stored begun
+  unfolding usernameOf stored filled
   name-yes x r g h k p =
       let a : length (take n l) ≡ n = length-take-le n l h in
       let s : usernameOf l ≡ accept (take n l) = pass _ _ _ _ (whole ∙ g) (ap accept e) in
       let b : x ≡ take n l ++ replicate (16 - length (take n l)) 0 =
-      put-done _ 0 (take n l) r x p (omega arith)
-      ∙ begun-first (take n l) _
-      ∙ ap (λ (z : List ℕ). take n l ++ z) (drop-replicate (length (take n l)) 16)
+      put-filled 16 (take n l) r x p (omega arith)
       in
       let m : _≡_ {A = Username} (record { bytes = x; len = n }) (stored (take n l)) =
       ap₂ made b (sym a)

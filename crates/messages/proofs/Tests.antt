@@ -1,9 +1,9 @@
 -- One law for each return of the tests that the messages share. A law's premises are what the code has tested by then.
-use Prim.Native.Nat.{ℕ, suc, _+_, _-_, _<_, _≤_}
+use Prim.Native.Nat.{ℕ, suc, _+_, _<_, _≤_}
 use native.Mathlib.Omega.{arith}
 use native.Mathlib.Numerals.{add-one}
 use mathlib.Core.Bool.{Bool, true, false, not, _||_}
-use mathlib.Core.List.{List, _++_, append-nil}
+use mathlib.Core.List.{List}
 use mathlib.Core.Path.{_≡_, refl, sym, _∙_, ap}
 use lib.Dec.{leb}
 use lib.ListN.{length, getD, drop, drop-of-length-le}
@@ -13,9 +13,7 @@ use Rattle.refusal.specs.Order.{Res, refuse, accept}
 use Rattle.refusal.specs.Table.{among}
 use Rattle.refusal.proofs.Order.{pass, need-no}
 use Rattle.octets.specs.Number.{unle}
-use Rattle.octets.specs.Place.{part, begun}
-use Rattle.octets.specs.Promise.{PutPromise}
-use Rattle.octets.proofs.Place.{put-done, begun-first}
+use Rattle.octets.specs.Place.{part}
 use Rattle.messages.specs.Auth.{isLevel}
 use Rattle.messages.specs.Status.{common, statusNumber}
 use Rattle.messages.specs.Rakp.{checked}
@@ -95,15 +93,3 @@ module _ (at : ℕ) (names : List ℕ) (fixed n v : ℕ) (m : List ℕ) where
         (pass _ _ _ _ (le-leb 4 _ h)
         (pass _ _ _ _ (eq-eqb _ 0 g)
         (pass _ _ _ _ (le-leb fixed _ k) (pass _ _ _ _ (ap not (ne-eqb _ 0 z)) refl))))
-
--- an array that was filled whole
-whole : (z s : List ℕ) → length s ≡ length z → begun s z ≡ s
-unfolding begun
-whole z s e = let h : length z ≤ length s = omega arith in ap (λ (r : List ℕ). s ++ r) (drop-of-length-le z h) ∙ append-nil s
-
-pub filled : (z s : List ℕ) (r : Bool) (x : List ℕ) → PutPromise z 0 s r x → length s ≡ length z → x ≡ s
-filled z s r x p e = put-done z 0 s r x p (omega arith) ∙ begun-first s z ∙ whole z s e
-
--- the part of a message that was lent to fill an array
-pub lent : (m : List ℕ) (a n : ℕ) → part m a (a + n - a) ≡ part m a n
-lent m a n = let e : a + n - a ≡ n = omega arith in ap (part m a) e

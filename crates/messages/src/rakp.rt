@@ -1,11 +1,9 @@
 // What the messages have in common: their answers, statuses with a name, the first eight bytes.
 ghost use mathlib.Core.Path.{_≡_};
-ghost use Prim.Native.Nat.{_+_, _<_, _≤_};
+ghost use Prim.Native.Nat.{_<_};
 ghost use mathlib.Core.List.{_∷_};
-ghost use lib.ListN.{length};
 ghost use Rattle.refusal.specs.Table.{numberOf, valueOf, among};
 ghost use Rattle.octets.specs.Number.{le};
-ghost use Rattle.octets.specs.Place.{part};
 ghost use Rattle.messages.specs.Status.{statusNumber};
 ghost use Rattle.messages.specs.Rakp.{checked};
 ghost use Rattle.messages.specs.Answers.{tested};
@@ -85,14 +83,4 @@ pub(crate) fn begin(a: u8, b: u8, c: u8, d: u8, id: u32) -> [u8; 8]
 {
     let n = octets::le4(id);
     [a, b, c, d, n[0], n[1], n[2], n[3]]
-}
-
-// Sixteen bytes of a message.
-pub(crate) fn sixteen(message: &[u8], at: usize) -> [u8; 16]
-    requires { ⌜ at + 16 ≤ length (now message) ⌝ }
-    ensures { λ r. ⌜ r ≡ part (now (message .entry)) at 16 ⌝ }
-{
-    let mut bytes = [0u8; 16];
-    octets::put(&mut bytes, 0, &message[at..at + 16]);
-    bytes
 }

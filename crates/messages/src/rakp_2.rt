@@ -32,8 +32,8 @@ fn fields(message: &[u8]) -> RakpMessage2
     requires { ⌜ 40 ≤ length (now message) ⌝ }
     ensures { λ r. ⌜ r ≡ fields2 (now (message .entry)) ⌝ }
 {
-    let random = rakp::sixteen(message, 8);
-    let guid = rakp::sixteen(message, 24);
+    let random = octets::block(message, 8);
+    let guid = octets::block(message, 24);
     RakpMessage2 {
         tag: message[0],
         console: octets::load_le4(message, 4),

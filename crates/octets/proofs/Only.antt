@@ -14,6 +14,7 @@ use Rattle.octets.proofs.put.Reads as put-reads
 use Rattle.octets.proofs.store_le2.Reads as store-le2-reads
 use Rattle.octets.proofs.store_le4.Reads as store-le4-reads
 use Rattle.octets.proofs.same.Reads as same-reads
+use Rattle.octets.proofs.block.Reads as block-reads
 
 pub le2-only : (κs : _) (args : _) (a b : _) (s t : _) → le2-reads.Post κs args a s → le2-reads.Post κs args b t → a ≡ b
 le2-only κs args a b s t p q = p ∙ sym q
@@ -31,6 +32,9 @@ load-le4-only κs args a b s t p q = p ∙ sym q
 
 pub same-only : (κs : _) (args : _) (a b : _) (s t : _) → same-reads.Post κs args a s → same-reads.Post κs args b t → a ≡ b
 same-only κs args a b s t p q = p ∙ sym q
+
+pub block-only : (κs : _) (args : _) (a b : _) (s t : _) → block-reads.Post κs args a s → block-reads.Post κs args b t → a ≡ b
+block-only κs args a b s t p q = p ∙ sym q
 
 promise-only : (d : List ℕ) (n : ℕ) (m : List ℕ) (a b : Bool) (x y : List ℕ)
     → PutPromise d n m a x → PutPromise d n m b y → (a ≡ b) × (x ≡ y)

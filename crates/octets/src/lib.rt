@@ -3,7 +3,7 @@ ghost use mathlib.Core.Path.{_≡_};
 ghost use Prim.Native.Nat.{_+_, _<_, _≤_};
 ghost use lib.ListN.{length, getD};
 ghost use Rattle.octets.specs.Number.{le, unle};
-ghost use Rattle.octets.specs.Place.{part, pasted};
+ghost use Rattle.octets.specs.Place.{part, filled, pasted};
 ghost use Rattle.octets.specs.Equal.{same};
 ghost use Rattle.octets.specs.Promise.{PutPromise};
 
@@ -51,6 +51,22 @@ pub fn load_le4(s: &[u8], at: usize) -> u32
     ensures { λ r. ⌜ r ≡ unle (part (now (s .entry)) at 4) ⌝ }
 {
     byte(s, at, 0) + 256 * (byte(s, at, 1) + 256 * (byte(s, at, 2) + 256 * byte(s, at, 3)))
+}
+
+// The sixteen bytes from `at` on; bytes past the end count as 0.
+pub fn block(s: &[u8], at: usize) -> [u8; 16]
+    ensures { λ r. ⌜ r ≡ filled 16 (part (now (s .entry)) at 16) ⌝ }
+{
+    let mut b = [0u8; 16];
+    if s.len() <= at {
+        return b;
+    }
+    if s.len() - at < 16 {
+        put(&mut b, 0, &s[at..]);
+        return b;
+    }
+    put(&mut b, 0, &s[at..at + 16]);
+    b
 }
 
 fn copy(dst: &mut [u8], at: usize, src: &[u8])

@@ -6,16 +6,12 @@ use mathlib.Core.Path.{_≡_, refl, sym, _∙_, ap, ap₂}
 use mathlib.Core.List.{List, _∷_, _++_, append-nil}
 use lib.ListN.{length, getD, take, drop, set, replicate, length-append, length-replicate, length-take}
 use lib.Seq.{paste, paste-suc, take-at, take-length, take-append-add, drop-append-add}
+use Rattle.octets.proofs.Filled.{drop-replicate}
 use Rattle.sha1.specs.Running.{room}
 
 pub length-room : (p : List ℕ) → length p ≤ 64 → length (room p) ≡ 64
 unfolding room
 length-room p l = length-append p (replicate (64 - length p) 0) ∙ rw (length-replicate {A = ℕ} (64 - length p) 0) (omega arith)
-
-pub drop-replicate : (k n : ℕ) → drop k (replicate {A = ℕ} n 0) ≡ replicate {A = ℕ} (n - k) 0
-drop-replicate zero n = let e : n - 0 ≡ n = omega arith in rw e refl
-drop-replicate (suc k) zero = let e : 0 - suc k ≡ 0 = omega arith in rw e refl
-drop-replicate (suc k) (suc n) = let e : suc n - suc k ≡ n - k = omega arith in rw e (drop-replicate k n)
 
 pub take-replicate : (k n : ℕ) → k ≤ n → take k (replicate {A = ℕ} n 0) ≡ replicate {A = ℕ} k 0
 take-replicate zero n l = refl

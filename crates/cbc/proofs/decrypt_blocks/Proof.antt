@@ -5,6 +5,7 @@ use mathlib.Core.Path.{_≡_, refl, sym, _∙_, ap}
 use mathlib.Core.List.{List, _++_}
 use borrow.Author.Needs.{needs}
 use lib.ListN.{take, drop, length}
+use Rattle.octets.proofs.Filled.{filled-part}
 use Rattle.aes.specs.Cipher.{cipher, invCipher}
 use Rattle.aes.specs.Schedule.{keysOf}
 use Rattle.cbc.specs.Cbc.{xorBlock}
@@ -26,7 +27,7 @@ loop-again c = let w : List ℕ = keysOf (c .before .before .before .before .bef
     let l = c .before .before .before .before .before .before .before .before .before .before .loop in
     let h = c .before .before .before .before .before .xor-block .ensures ∙ ap (λ (y : List ℕ). xorBlock y (l .v)) (c .before .before .before .before .before .before .decrypt-block .ensures) in
     let t = run-turn (opened w) kept (l .i) _ (l .v) (l .s) _ _ _ _ _ _ (omega arith) (l .inv .1) (opened-length w) (l .inv .2)
-    (c .before .before .before .before .before .before .before .read-block .ensures) h refl (c .before .before .put .ensures) in
+    (c .before .before .before .before .before .before .before .block .ensures ∙ filled-part 16 (l .s) (16 * l .i) (omega arith)) h refl (c .before .before .put .ensures) in
     (omega arith, t .0, t .1)
 
 same-length : tie.Need-same-length Inv-loop μ-loop

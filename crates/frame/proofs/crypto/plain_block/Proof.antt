@@ -1,5 +1,8 @@
 -- `plain_block` keeps its promise: a block of the plain text is made from the two blocks that meet at its start.
+use Prim.Native.Nat.{_-_}
+use native.Mathlib.Omega.{arith}
 use mathlib.Core.Path.{ap, ap₂, _∙_}
+use Rattle.octets.proofs.Filled.{filled-part}
 use Rattle.aes.specs.Schedule.{keysOf}
 use Rattle.aes.specs.Cipher.{invCipher}
 use Rattle.cbc.specs.Cbc.{xorBlock}
@@ -9,7 +12,7 @@ use Rattle.frame.proofs.crypto.plain_block.Statement.{statement}
 use Rattle.frame.proofs.crypto.plain_block.Tie as tie
 
 returns : tie.Need-returns
-returns c = let a = c .before .before .before .before .before .args in let p = c .before .before .before .before .before .pre in c .sum-block .ensures ∙ ap₂ xorBlock (c .before .decrypt-block .ensures ∙ ap (invCipher (keysOf (a .w))) (c .before .before .before .block-at .ensures)) (c .before .before .block-at2 .ensures) ∙ body-block (keysOf (a .w)) (a .body .now) (a .at) (p .0) (p .1) (p .2)
+returns c = let a = c .before .before .before .before .before .args in let p = c .before .before .before .before .before .pre in c .xor-block .ensures ∙ ap₂ xorBlock (c .before .decrypt-block .ensures ∙ ap (invCipher (keysOf (a .w))) (c .before .before .before .block .ensures ∙ filled-part 16 (a .body .now) (a .at) (p .2))) (c .before .before .block2 .ensures ∙ filled-part 16 (a .body .now) (a .at - 16) (omega arith)) ∙ body-block (keysOf (a .w)) (a .body .now) (a .at) (p .0) (p .1) (p .2)
 
 pub plain-block-spec : {M : Type 1} → statement M
 plain-block-spec =

@@ -1,11 +1,21 @@
 -- `decrypt_body` keeps its promise: the part lent is the one between the IV and the trailer.
+use Prim.Native.Nat.{_+_, _≤_}
+use native.Mathlib.Omega.{arith}
+use mathlib.Core.Path.{_∙_}
+use lib.ListN.{length}
+use Rattle.octets.proofs.Filled.{filled-part}
 use Rattle.frame.proofs.InPlace.{body-in-place}
 use borrow.Author.Needs.{needs}
 use Rattle.frame.proofs.opening.decrypt_body.Statement.{statement}
 use Rattle.frame.proofs.opening.decrypt_body.Tie as tie
 
 returns : tie.Need-returns
-returns c = body-in-place _ _ _ _ _ _ (c .before .before .before .before .before .before .before .before .before .before .before .pre) (c .before .before .before .before .before .before .before .before .load-le2 .ensures) (c .before .before .before .before .aes-key .ensures) (c .before .before .before .before .before .before .block-at .ensures) (c .before .before .decrypt .ensures)
+returns c =
+    let s = c .before .before .before .before .before .before .before .before .before .before .before in
+    let h : 12 + 16 ≤ length (s .args .packet .now) = omega (arith, s .pre .iv, s .pre .within) in
+    body-in-place _ _ _ _ _ _ (s .pre) (c .before .before .before .before .before .before .before .before .load-le2 .ensures) (c .before .before .before .before .aes-key .ensures)
+    (c .before .before .before .before .before .before .block .ensures ∙ filled-part 16 (s .args .packet .now) 12 h)
+    (c .before .before .decrypt .ensures)
 
 pub decrypt-body-spec : {M : Type 1} → statement M
 decrypt-body-spec =

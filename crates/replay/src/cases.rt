@@ -2,86 +2,103 @@
 use crate::ciphers;
 use crate::frames;
 use crate::hashes;
-use crate::say;
+use crate::hashes::Summing;
 use crate::script;
 use crate::steps;
-use crate::walk::Field;
-use crate::walk::first;
-use crate::walk::text_of;
+use crate::walk::nth;
+use crate::walk::place_of;
 use text::Cursor;
 
-fn hash_case(line: &[u8], f: Field, buf: &mut [u8], out: &mut [u8], c: Cursor) -> Cursor {
-    let name = text_of(line, f);
-    if octets::same(name, b"sha1") {
-        return hashes::sha1_case(line, f, buf, out, c);
-    }
-    if octets::same(name, b"pieces") {
-        return hashes::pieces_case(line, f, buf, out, c);
-    }
-    if octets::same(name, b"hmac") {
-        return hashes::hmac_case(line, f, buf, out, c);
-    }
-    if octets::same(name, b"zeros") {
-        return hashes::zeros_case(line, f, false, out, c);
-    }
-    if octets::same(name, b"hmac-zeros") {
-        return hashes::zeros_case(line, f, true, out, c);
-    }
-    cipher_case(line, f, buf, out, c)
+// The flag tells the two words of one shape apart: it says of the second that it is the second.
+enum Case {
+    Hash(Summing),
+    Block(bool),
+    Cbc(bool),
+    Keys,
+    Payload,
+    Read(bool),
+    Write(bool),
+    Steps,
+    Script,
+    Bad,
 }
 
-fn cipher_case(line: &[u8], f: Field, buf: &mut [u8], out: &mut [u8], c: Cursor) -> Cursor {
-    let name = text_of(line, f);
-    if octets::same(name, b"encrypt") {
-        return ciphers::block_case(line, f, false, out, c);
+// How many fields the line of a word has. The words are in this order; those from 15 on have any number.
+fn fields_of(k: usize, n: usize) -> usize {
+    if k < 3 {
+        return 2;
     }
-    if octets::same(name, b"decrypt") {
-        return ciphers::block_case(line, f, true, out, c);
+    if k < 8 {
+        return 3;
     }
-    if octets::same(name, b"cbc-encrypt") {
-        return ciphers::cbc_case(line, f, false, buf, out, c);
+    if k < 10 {
+        return 4;
     }
-    if octets::same(name, b"cbc-decrypt") {
-        return ciphers::cbc_case(line, f, true, buf, out, c);
+    if k < 12 {
+        return 5;
     }
-    if octets::same(name, b"keys") {
-        return ciphers::keys_case(line, f, out, c);
-    }
-    frame_case(line, f, buf, out, c)
+    if k < 15 { 10 } else { n }
 }
 
-fn frame_case(line: &[u8], f: Field, buf: &mut [u8], out: &mut [u8], c: Cursor) -> Cursor {
-    let name = text_of(line, f);
-    if octets::same(name, b"read") {
-        return frames::read_case(line, f, false, buf, out, c);
+fn case_of(k: usize) -> Case {
+    match k {
+        0 => Case::Hash(Summing::Sha1),
+        1 => Case::Keys,
+        2 => Case::Payload,
+        3 => Case::Hash(Summing::Hmac),
+        4 => Case::Hash(Summing::Zeros),
+        5 => Case::Hash(Summing::HmacZeros),
+        6 => Case::Block(false),
+        7 => Case::Block(true),
+        8 => Case::Cbc(false),
+        9 => Case::Cbc(true),
+        10 => Case::Read(false),
+        11 => Case::Read(true),
+        12 => Case::Write(false),
+        13 => Case::Write(true),
+        14 => Case::Steps,
+        15 => Case::Hash(Summing::Pieces),
+        16 => Case::Script,
+        _ => Case::Bad,
     }
-    if octets::same(name, b"datagram") {
-        return frames::read_case(line, f, true, buf, out, c);
-    }
-    if octets::same(name, b"write") {
-        return frames::write_case(line, f, false, buf, out, c);
-    }
-    if octets::same(name, b"wrap") {
-        return frames::write_case(line, f, true, buf, out, c);
-    }
-    session_case(line, f, buf, out, c)
 }
 
-fn session_case(line: &[u8], f: Field, buf: &mut [u8], out: &mut [u8], c: Cursor) -> Cursor {
-    let name = text_of(line, f);
-    if octets::same(name, b"block") {
-        return steps::block_case(line, f, buf, out, c);
+fn place(line: &[u8]) -> usize {
+    let words =
+        b"sha1 keys block hmac zeros hmac-zeros encrypt decrypt cbc-encrypt cbc-decrypt read datagram write wrap steps pieces script";
+    place_of(words, nth(line, 0))
+}
+
+fn which(line: &[u8]) -> Case {
+    let k = place(line);
+    let n = text::fields(line, b' ');
+    if fields_of(k, n) == n {
+        case_of(k)
+    } else {
+        Case::Bad
     }
-    if octets::same(name, b"steps") {
-        return steps::steps_case(line, f, buf, out, c);
+}
+
+// Nothing is told of a bad line.
+fn told(line: &[u8], buf: &mut [u8], out: &mut [u8], c: Cursor) -> Cursor {
+    match which(line) {
+        Case::Hash(which) => hashes::answer(line, which, buf, out, c),
+        Case::Block(decrypts) => ciphers::block_case(line, decrypts, out, c),
+        Case::Cbc(decrypts) => ciphers::cbc_case(line, decrypts, buf, out, c),
+        Case::Keys => ciphers::keys_case(line, out, c),
+        Case::Payload => steps::block_case(line, buf, out, c),
+        Case::Read(outer) => frames::read_case(line, outer, buf, out, c),
+        Case::Write(outer) => frames::write_case(line, outer, buf, out, c),
+        Case::Steps => steps::steps_case(line, buf, out, c),
+        Case::Script => script::script_case(line, buf, out, c),
+        Case::Bad => c,
     }
-    if octets::same(name, b"script") {
-        return script::script_case(line, f, buf, out, c);
-    }
-    say::bad_line(out, c)
 }
 
 pub fn answer(line: &[u8], buf: &mut [u8], out: &mut [u8], c: Cursor) -> Cursor {
-    let f = first(line);
-    hash_case(line, f, buf, out, c)
+    let d = told(line, buf, out, c);
+    if d.at == c.at {
+        return text::add(out, c, b"bad line");
+    }
+    d
 }

@@ -1,14 +1,10 @@
 // The cases of the cipher and of the session's keys.
 use crate::say;
-use crate::walk::Field;
-use crate::walk::Got;
 use crate::walk::block_of;
-use crate::walk::bytes;
-use crate::walk::last;
-use crate::walk::next;
 use crate::walk::part;
 use crate::walk::part_mut;
 use crate::walk::sik_of;
+use crate::walk::span_of;
 use aes::Aes128;
 use cbc::Ciphered;
 use keys::Keys;
@@ -24,19 +20,11 @@ fn one_block(key: [u8; 16], b: [u8; 16], decrypts: bool) -> [u8; 16] {
 }
 
 // `encrypt KEY BLOCK` and `decrypt KEY BLOCK`.
-pub fn block_case(line: &[u8], f: Field, decrypts: bool, out: &mut [u8], c: Cursor) -> Cursor {
-    let f = next(line, f);
-    let key = block_of(line, f);
-    let f = next(line, f);
-    let b = block_of(line, f);
-    if !key.ok {
-        return say::bad_line(out, c);
-    }
-    if !b.ok {
-        return say::bad_line(out, c);
-    }
-    if !last(line, f) {
-        return say::bad_line(out, c);
+pub fn block_case(line: &[u8], decrypts: bool, out: &mut [u8], c: Cursor) -> Cursor {
+    let key = block_of(line, 1);
+    let b = block_of(line, 2);
+    if key.bad | b.bad {
+        return c;
     }
     let k = key.bytes;
     let x = b.bytes;
@@ -60,46 +48,25 @@ fn told(out: &mut [u8], c: Cursor, r: Ciphered, s: &[u8]) -> Cursor {
 }
 
 // `cbc-encrypt KEY IV DATA` and `cbc-decrypt KEY IV DATA`.
-pub fn cbc_case(
-    line: &[u8],
-    f: Field,
-    decrypts: bool,
-    buf: &mut [u8],
-    out: &mut [u8],
-    c: Cursor,
-) -> Cursor {
-    let f = next(line, f);
-    let key = block_of(line, f);
-    let f = next(line, f);
-    let iv = block_of(line, f);
-    let f = next(line, f);
-    if !key.ok {
-        return say::bad_line(out, c);
+pub fn cbc_case(line: &[u8], decrypts: bool, buf: &mut [u8], out: &mut [u8], c: Cursor) -> Cursor {
+    let key = block_of(line, 1);
+    let iv = block_of(line, 2);
+    let data = span_of(line, 3, buf, 0);
+    if key.bad | iv.bad | data.bad {
+        return c;
     }
-    if !iv.ok {
-        return say::bad_line(out, c);
-    }
-    if !last(line, f) {
-        return say::bad_line(out, c);
-    }
-    let Got::Bytes(n) = bytes(line, f, buf, 0) else {
-        return say::bad_line(out, c);
-    };
     let k = key.bytes;
     let v = iv.bytes;
+    let n = data.to;
     let r = blocks(k, v, part_mut(buf, n), decrypts);
     told(out, c, r, part(buf, 0, n))
 }
 
 // `keys SIK`.
-pub fn keys_case(line: &[u8], f: Field, out: &mut [u8], c: Cursor) -> Cursor {
-    let f = next(line, f);
-    let sik = sik_of(line, f);
-    if !sik.ok {
-        return say::bad_line(out, c);
-    }
-    if !last(line, f) {
-        return say::bad_line(out, c);
+pub fn keys_case(line: &[u8], out: &mut [u8], c: Cursor) -> Cursor {
+    let sik = sik_of(line, 1);
+    if sik.bad {
+        return c;
     }
     let s = sik.bytes;
     let k = Keys::from_sik(s);

@@ -1,19 +1,15 @@
 // The cases of packets and datagrams.
-use crate::numbers::Count;
 use crate::numbers::count_of;
 use crate::numbers::room_of;
 use crate::numbers::word_of;
 use crate::say;
-use crate::walk::Block;
-use crate::walk::Field;
-use crate::walk::Got;
+use crate::walk::Span;
 use crate::walk::block_of;
-use crate::walk::bytes;
-use crate::walk::last;
-use crate::walk::next;
 use crate::walk::part;
 use crate::walk::part_mut;
 use crate::walk::sik_of;
+use crate::walk::span_of;
+use crate::walk::within;
 use frame::Confidentiality;
 use frame::Integrity;
 use frame::PayloadType;
@@ -40,32 +36,31 @@ fn integrity(n: u32) -> Integrity {
     }
 }
 
-// What CONF, INTEG and SIK give, and the last of these fields.
+// What CONF, INTEG and SIK give, the first three fields.
 struct Given {
     bad: bool,
     encrypts: bool,
     session: SubState,
-    at: Field,
 }
 
-fn session_of(line: &[u8], f: Field) -> Given {
-    let f = next(line, f);
-    let c = count_of(line, f, 1);
-    let f = next(line, f);
-    let i = count_of(line, f, 1);
-    let f = next(line, f);
-    let sik = sik_of(line, f);
-    let k = sik.bytes;
+fn session_from(bad: bool, conf: u32, integ: u32, sik: [u8; 20]) -> Given {
     Given {
-        bad: c.bad || i.bad || !sik.ok,
-        encrypts: c.n == 1,
+        bad,
+        encrypts: conf == 1,
         session: SubState {
-            keys: Keys::from_sik(k),
-            confidentiality: confidentiality(c.n),
-            integrity: integrity(i.n),
+            keys: Keys::from_sik(sik),
+            confidentiality: confidentiality(conf),
+            integrity: integrity(integ),
         },
-        at: f,
     }
+}
+
+fn session_of(line: &[u8]) -> Given {
+    let c = count_of(line, 1, 1);
+    let i = count_of(line, 2, 1);
+    let sik = sik_of(line, 3);
+    let k = sik.bytes;
+    session_from(c.bad | i.bad | sik.bad, c.n, i.n, k)
 }
 
 fn type_number(ty: PayloadType) -> u8 {
@@ -146,28 +141,26 @@ fn read_one(s: SubState, outer: bool, packet: &mut [u8]) -> Read {
     }
 }
 
-// `read CONF INTEG SIK PACKET` and `datagram CONF INTEG SIK DATAGRAM`.
-pub fn read_case(
-    line: &[u8],
-    f: Field,
-    outer: bool,
-    buf: &mut [u8],
-    out: &mut [u8],
-    c: Cursor,
-) -> Cursor {
-    let g = session_of(line, f);
-    let at = g.at;
-    let f = next(line, at);
-    if g.bad || !last(line, f) {
-        return say::bad_line(out, c);
+// A field's bytes, and the same bytes right behind them.
+fn twice(line: &[u8], k: usize, buf: &mut [u8]) -> Span {
+    let once = span_of(line, k, buf, 0);
+    let again = span_of(line, k, buf, once.to);
+    Span {
+        bad: again.bad,
+        from: 0,
+        to: once.to,
     }
-    let Got::Bytes(n) = bytes(line, f, buf, 0) else {
-        return say::bad_line(out, c);
-    };
-    let Got::Bytes(_) = bytes(line, f, buf, n) else {
-        return say::bad_line(out, c);
-    };
+}
+
+// `read CONF INTEG SIK PACKET` and `datagram CONF INTEG SIK DATAGRAM`.
+pub fn read_case(line: &[u8], outer: bool, buf: &mut [u8], out: &mut [u8], c: Cursor) -> Cursor {
+    let g = session_of(line);
+    let packet = twice(line, 4, buf);
+    if g.bad | packet.bad {
+        return c;
+    }
     let s = g.session;
+    let n = packet.to;
     let r = read_one(s, outer, part_mut(buf, n));
     let start = if outer { 4 } else { 0 };
     told_read(out, c, r, g.encrypts, buf, n, start)
@@ -179,8 +172,8 @@ struct Kind {
 }
 
 // A field that is the number of one of the eight types.
-fn kind_of(line: &[u8], f: Field) -> Kind {
-    let c = count_of(line, f, 0x15);
+fn kind_of(line: &[u8], k: usize) -> Kind {
+    let c = count_of(line, k, 0x15);
     let n = c.n;
     let ty = match n {
         0x01 => PayloadType::Sol,
@@ -193,7 +186,7 @@ fn kind_of(line: &[u8], f: Field) -> Kind {
         _ => PayloadType::IpmiMessage,
     };
     Kind {
-        bad: c.bad || type_number(ty) as u32 != n,
+        bad: c.bad | (type_number(ty) as u32 != n),
         ty,
     }
 }
@@ -206,36 +199,25 @@ struct Order {
     id: u32,
     seq: u32,
     room: u32,
-    at: Field,
 }
 
-fn ordered(iv: Block, ty: Kind, id: Count, seq: Count, room: Count, at: Field) -> Order {
+// IV, TYPE, ID, SEQ and ROOM.
+fn order_of(line: &[u8]) -> Order {
+    let iv = block_of(line, 4);
+    let ty = kind_of(line, 5);
+    let id = word_of(line, 6);
+    let seq = word_of(line, 7);
+    let room = room_of(line, 8);
     let v = iv.bytes;
     let t = ty.ty;
     Order {
-        bad: !iv.ok || ty.bad || id.bad || seq.bad || room.bad,
+        bad: iv.bad | ty.bad | id.bad | seq.bad | room.bad,
         iv: v,
         ty: t,
         id: id.n,
         seq: seq.n,
         room: room.n,
-        at,
     }
-}
-
-// IV, TYPE, ID, SEQ and ROOM.
-fn order_of(line: &[u8], f: Field) -> Order {
-    let f = next(line, f);
-    let iv = block_of(line, f);
-    let f = next(line, f);
-    let ty = kind_of(line, f);
-    let f = next(line, f);
-    let id = word_of(line, f);
-    let f = next(line, f);
-    let seq = word_of(line, f);
-    let f = next(line, f);
-    let room = room_of(line, f);
-    ordered(iv, ty, id, seq, room, f)
 }
 
 fn write_one(s: SubState, o: Order, outer: bool, payload: &[u8], room: &mut [u8]) -> Written {
@@ -272,25 +254,13 @@ fn told_written(
 }
 
 // `write CONF INTEG SIK IV TYPE ID SEQ ROOM PAYLOAD` and `wrap ..`.
-pub fn write_case(
-    line: &[u8],
-    f: Field,
-    outer: bool,
-    buf: &mut [u8],
-    out: &mut [u8],
-    c: Cursor,
-) -> Cursor {
-    let g = session_of(line, f);
-    let at = g.at;
-    let o = order_of(line, at);
-    let at = o.at;
-    let f = next(line, at);
-    if g.bad || o.bad || !last(line, f) {
-        return say::bad_line(out, c);
+pub fn write_case(line: &[u8], outer: bool, buf: &mut [u8], out: &mut [u8], c: Cursor) -> Cursor {
+    let g = session_of(line);
+    let o = order_of(line);
+    let payload = span_of(line, 9, buf, 0);
+    if g.bad | o.bad | payload.bad {
+        return c;
     }
-    let Got::Bytes(n) = bytes(line, f, buf, 0) else {
-        return say::bad_line(out, c);
-    };
     let s = g.session;
-    told_written(s, o, outer, part(buf, 0, n), out, c)
+    told_written(s, o, outer, within(buf, payload), out, c)
 }

@@ -3,12 +3,12 @@ ghost use Prim.Native.Nat.{_<_, _≤_};
 use crate::numbers::count_of;
 use crate::say;
 use crate::walk::Field;
-use crate::walk::Got;
 use crate::walk::bytes;
-use crate::walk::last;
+use crate::walk::first;
 use crate::walk::next;
 use crate::walk::part;
 use crate::walk::span_of;
+use crate::walk::text_of;
 use crate::walk::within;
 use sha1::Hashed;
 use sha1::Outcome;
@@ -32,28 +32,29 @@ fn told(out: &mut [u8], c: Cursor, h: Hashed) -> Cursor {
     }
 }
 
+// What a line gives to tell, unless it is bad.
+struct Sum {
+    bad: bool,
+    hashed: Hashed,
+}
+
 // `sha1 DATA`.
-pub fn sha1_case(line: &[u8], f: Field, buf: &mut [u8], out: &mut [u8], c: Cursor) -> Cursor {
-    let f = next(line, f);
-    if !last(line, f) {
-        return say::bad_line(out, c);
-    }
-    match bytes(line, f, buf, 0) {
-        Got::Bad => say::bad_line(out, c),
-        Got::Bytes(n) => told(out, c, sha1::hash(part(buf, 0, n))),
+fn sha1_case(line: &[u8], buf: &mut [u8]) -> Sum {
+    let data = span_of(line, 1, buf, 0);
+    Sum {
+        bad: data.bad,
+        hashed: sha1::hash(within(buf, data)),
     }
 }
 
 // `hmac KEY DATA`.
-pub fn hmac_case(line: &[u8], f: Field, buf: &mut [u8], out: &mut [u8], c: Cursor) -> Cursor {
-    let f = next(line, f);
-    let key = span_of(line, f, buf, 0);
-    let f = next(line, f);
-    let data = span_of(line, f, buf, key.to);
-    if key.bad || data.bad || !last(line, f) {
-        return say::bad_line(out, c);
+fn hmac_case(line: &[u8], buf: &mut [u8]) -> Sum {
+    let key = span_of(line, 1, buf, 0);
+    let data = span_of(line, 2, buf, key.to);
+    Sum {
+        bad: key.bad | data.bad,
+        hashed: sha1::hmac(within(buf, key), within(buf, data)),
     }
-    told(out, c, sha1::hmac(within(buf, key), within(buf, data)))
 }
 
 // What has been read and fed of `pieces`.
@@ -76,32 +77,23 @@ fn piece(line: &[u8], s: Pieces, buf: &mut [u8]) -> Pieces {
     let h = s.hash;
     let a = s.answer;
     let f = next(line, s.at);
-    match bytes(line, f, buf, 0) {
-        Got::Bad => Pieces {
-            hash: h,
-            answer: a,
-            at: f,
-            bad: true,
-        },
-        Got::Bytes(n) => {
-            let fed = h.update(part(buf, 0, n));
-            let h = fed.hash;
-            let b = fed.answer;
-            Pieces {
-                hash: h,
-                answer: earlier(a, b),
-                at: f,
-                bad: s.bad,
-            }
-        }
+    let p = bytes(text_of(line, f), buf, 0);
+    let fed = h.update(within(buf, p));
+    let h = fed.hash;
+    let b = fed.answer;
+    Pieces {
+        hash: h,
+        answer: earlier(a, b),
+        at: f,
+        bad: s.bad | p.bad,
     }
 }
 
-fn all_pieces(line: &[u8], f: Field, buf: &mut [u8]) -> Pieces {
+fn all_pieces(line: &[u8], buf: &mut [u8]) -> Pieces {
     let mut s = Pieces {
         hash: Sha1::new(),
         answer: Outcome::Done,
-        at: f,
+        at: first(line),
         bad: false,
     };
     let n = text::fields(line, b' ');
@@ -113,38 +105,45 @@ fn all_pieces(line: &[u8], f: Field, buf: &mut [u8]) -> Pieces {
     s
 }
 
-// `pieces DATA DATA ..`, one piece at least.
-pub fn pieces_case(line: &[u8], f: Field, buf: &mut [u8], out: &mut [u8], c: Cursor) -> Cursor {
-    if last(line, f) {
-        return say::bad_line(out, c);
-    }
-    let s = all_pieces(line, f, buf);
-    if s.bad {
-        return say::bad_line(out, c);
-    }
-    let h = s.hash;
-    let a = s.answer;
-    match a {
-        Outcome::Done => told(out, c, h.finalize()),
-        Outcome::Refused(r) => {
-            let c = say::refused(out, c, r);
-            say::blocks(out, c, 0)
-        }
+// What a hash tells that was refused.
+fn stopped(a: Outcome) -> Hashed {
+    Hashed {
+        answer: a,
+        digest: [0u8; 20],
+        blocks: 0,
     }
 }
 
-// How many bytes a piece of m has where `left` are to come.
+// `pieces DATA DATA ..`, one piece at least.
+fn pieces_case(line: &[u8], buf: &mut [u8]) -> Sum {
+    let s = all_pieces(line, buf);
+    let h = s.hash;
+    let a = s.answer;
+    let hashed = match a {
+        Outcome::Done => h.finalize(),
+        Outcome::Refused(_) => stopped(a),
+    };
+    let f = s.at;
+    Sum {
+        bad: s.bad | (f.from == 0),
+        hashed,
+    }
+}
+
+// How many bytes a piece of m has where `left` are to come; all of them where m is none.
 fn piece_len(left: u32, m: u32) -> u32
-    requires { ⌜ (0 < left) × (0 < m) ⌝ }
+    requires { ⌜ 0 < left ⌝ }
     ensures { λ r. ⌜ (0 < r) × (r ≤ left) ⌝ }
 {
-    if left < m { left } else { m }
+    if left <= m {
+        left
+    } else {
+        if m == 0 { left } else { m }
+    }
 }
 
 // A hash of n zeros in pieces of m, or the refusal of the first piece that is refused.
-fn zeros(zero: &[u8], n: u32, m: u32) -> Hashed
-    requires { ⌜ 0 < m ⌝ }
-{
+fn zeros(zero: &[u8], n: u32, m: u32) -> Hashed {
     let mut h = Sha1::new();
     let mut left = n;
     while 0 < left {
@@ -152,11 +151,7 @@ fn zeros(zero: &[u8], n: u32, m: u32) -> Hashed
         let fed = h.update(part(zero, 0, k as usize));
         let a = fed.answer;
         if let Outcome::Refused(_) = a {
-            return Hashed {
-                answer: a,
-                digest: [0u8; 20],
-                blocks: 0,
-            };
+            return stopped(a);
         }
         h = fed.hash;
         left -= k;
@@ -165,9 +160,7 @@ fn zeros(zero: &[u8], n: u32, m: u32) -> Hashed
 }
 
 // The same under HMAC with a key of twenty bytes 0B.
-fn hmac_zeros(zero: &[u8], n: u32, m: u32) -> Hashed
-    requires { ⌜ 0 < m ⌝ }
-{
+fn hmac_zeros(zero: &[u8], n: u32, m: u32) -> Hashed {
     let key = [0x0bu8; 20];
     let begun = Sha1Hmac::new(&key);
     let mut h = begun.mac;
@@ -177,11 +170,7 @@ fn hmac_zeros(zero: &[u8], n: u32, m: u32) -> Hashed
         let fed = h.feed(part(zero, 0, k as usize));
         let a = fed.answer;
         if let Outcome::Refused(_) = a {
-            return Hashed {
-                answer: a,
-                digest: [0u8; 20],
-                blocks: 0,
-            };
+            return stopped(a);
         }
         h = fed.mac;
         left -= k;
@@ -189,29 +178,44 @@ fn hmac_zeros(zero: &[u8], n: u32, m: u32) -> Hashed
     h.finalize()
 }
 
-// `zeros N M` and `hmac-zeros N M`.
-pub fn zeros_case(line: &[u8], f: Field, coded: bool, out: &mut [u8], c: Cursor) -> Cursor {
-    let f = next(line, f);
-    let g = next(line, f);
-    if !last(line, g) {
-        return say::bad_line(out, c);
-    }
-    let n = count_of(line, f, 0xffff_ffff);
-    let m = count_of(line, g, 65536);
-    if n.bad {
-        return say::bad_line(out, c);
-    }
-    if m.bad {
-        return say::bad_line(out, c);
-    }
-    let k = m.n;
-    if k == 0 {
-        return say::bad_line(out, c);
-    }
+// `zeros N M` and `hmac-zeros N M`. Nothing is hashed for a bad line, which may ask for much.
+fn zeros_case(line: &[u8], coded: bool) -> Sum {
+    let n = count_of(line, 1, 0xffff_ffff);
+    let m = count_of(line, 2, 65536);
+    let bad = n.bad | m.bad | (m.n == 0);
+    let count = if bad { 0 } else { n.n };
     let zero = io::large_buffer();
-    if coded {
-        told(out, c, hmac_zeros(&zero, n.n, k))
+    let hashed = if coded {
+        hmac_zeros(&zero, count, m.n)
     } else {
-        told(out, c, zeros(&zero, n.n, k))
+        zeros(&zero, count, m.n)
+    };
+    Sum { bad, hashed }
+}
+
+pub enum Summing {
+    Sha1,
+    Pieces,
+    Hmac,
+    Zeros,
+    HmacZeros,
+}
+
+fn summed(line: &[u8], which: Summing, buf: &mut [u8]) -> Sum {
+    match which {
+        Summing::Sha1 => sha1_case(line, buf),
+        Summing::Pieces => pieces_case(line, buf),
+        Summing::Hmac => hmac_case(line, buf),
+        Summing::Zeros => zeros_case(line, false),
+        Summing::HmacZeros => zeros_case(line, true),
     }
+}
+
+pub fn answer(line: &[u8], which: Summing, buf: &mut [u8], out: &mut [u8], c: Cursor) -> Cursor {
+    let s = summed(line, which, buf);
+    if s.bad {
+        return c;
+    }
+    let h = s.hashed;
+    told(out, c, h)
 }

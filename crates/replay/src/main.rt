@@ -3,6 +3,7 @@
 ghost use mathlib.Core.Path.{_≡_};
 ghost use lib.ListN.{length};
 
+mod calls;
 mod cases;
 mod ciphers;
 mod frames;
@@ -22,6 +23,8 @@ struct State {
     to: usize,
     // What has been gathered of the line; full once the line is longer than is taken.
     line: Cursor,
+    // Whether that is the whole line.
+    whole: bool,
     // How much of the output waits.
     at: usize,
     going: bool,
@@ -36,92 +39,88 @@ fn flushed(out: &[u8], at: usize, most: usize) -> usize {
     0
 }
 
-fn ended(out: &mut [u8], c: Cursor) -> usize {
-    let c = text::add(out, c, b"\n");
-    c.at
+// The line that was gathered. One that is longer than is taken counts as an empty one, which is bad, too.
+fn taken(line: &[u8], c: Cursor) -> &[u8] {
+    if c.full {
+        part(line, 0, 0)
+    } else {
+        part(line, 0, c.at)
+    }
+}
+
+// The next piece of the input once one has been gone through, or its end: the last line may lack its newline.
+fn refilled(s: State, piece: &mut [u8]) -> State {
+    if s.from < s.to {
+        return s;
+    }
+    let n = io::count(libc::read(0, piece), piece);
+    let c = s.line;
+    State {
+        from: 0,
+        to: n,
+        line: c,
+        whole: (n == 0) & (c.at != 0),
+        at: s.at,
+        going: n != 0,
+    }
+}
+
+// What the piece has of the line.
+fn gathered(s: State, piece: &[u8], line: &mut [u8]) -> State {
+    if !s.going {
+        return s;
+    }
+    let from = s.from;
+    let to = s.to;
+    let end = text::field_end(part(piece, 0, to), from, b'\n');
+    let c = text::add(line, s.line, part(piece, from, end));
+    State {
+        from: past(end, to),
+        to,
+        line: c,
+        whole: end < to,
+        at: s.at,
+        going: true,
+    }
+}
+
+// Past the newline, where there is one.
+fn past(end: usize, to: usize) -> usize {
+    if end < to { end + 1 } else { to }
 }
 
 // The answer to one line, after what waits. What waits is written out before much has gathered, and before a long line,
 // whose answer may need all the room.
-fn answered(line: &[u8], long: bool, bytes: &mut [u8], out: &mut [u8], at: usize) -> usize {
+fn answered(line: &[u8], bytes: &mut [u8], out: &mut [u8], at: usize) -> usize {
     let most = if line.len() < 65536 { 65536 } else { 0 };
     let c = Cursor {
         at: flushed(out, at, most),
         full: false,
     };
-    if long {
-        let c = say::bad_line(out, c);
-        return ended(out, c);
-    }
     let c = cases::answer(line, bytes, out, c);
-    ended(out, c)
+    let c = text::add(out, c, b"\n");
+    c.at
 }
 
-fn stopped(out: &[u8], at: usize) -> State {
-    flushed(out, at, 0);
+// The answer once the line is whole.
+fn replied(s: State, line: &[u8], bytes: &mut [u8], out: &mut [u8]) -> State {
+    if !s.whole {
+        return s;
+    }
     State {
-        from: 0,
-        to: 0,
+        from: s.from,
+        to: s.to,
         line: Cursor { at: 0, full: false },
-        at: 0,
-        going: false,
-    }
-}
-
-// The next piece of the input, or its end: the last line may lack its newline.
-fn refilled(s: State, piece: &mut [u8], line: &[u8], bytes: &mut [u8], out: &mut [u8]) -> State {
-    let n = io::count(libc::read(0, piece), piece);
-    let c = s.line;
-    if 0 < n {
-        return State {
-            from: 0,
-            to: n,
-            line: c,
-            at: s.at,
-            going: true,
-        };
-    }
-    let len = c.at;
-    if len == 0 {
-        return stopped(out, s.at);
-    }
-    let at = answered(part(line, 0, len), c.full, bytes, out, s.at);
-    stopped(out, at)
-}
-
-// What the piece has of the line, and the answer where the line ends in it.
-fn gathered(s: State, piece: &[u8], line: &mut [u8], bytes: &mut [u8], out: &mut [u8]) -> State {
-    let from = s.from;
-    let to = s.to;
-    let end = text::field_end(part(piece, 0, to), from, b'\n');
-    let c = text::add(line, s.line, part(piece, from, end));
-    if to <= end {
-        return State {
-            from: to,
-            to,
-            line: c,
-            at: s.at,
-            going: true,
-        };
-    }
-    let past = end + 1;
-    let len = c.at;
-    let at = answered(part(line, 0, len), c.full, bytes, out, s.at);
-    State {
-        from: past,
-        to,
-        line: Cursor { at: 0, full: false },
-        at,
-        going: true,
+        whole: false,
+        at: answered(taken(line, s.line), bytes, out, s.at),
+        going: s.going,
     }
 }
 
 fn turn(s: State, piece: &mut [u8], line: &mut [u8], bytes: &mut [u8], out: &mut [u8]) -> State {
-    if s.from < s.to {
-        gathered(s, piece, line, bytes, out)
-    } else {
-        refilled(s, piece, line, bytes, out)
-    }
+    let s = refilled(s, piece);
+    let s = gathered(s, piece, line);
+    replied(s, line, bytes, out)
 }
 
 // A proved loop has to end, and nothing says that an input does: so the turns are counted down from a number that no run
@@ -131,12 +130,14 @@ fn run(piece: &mut [u8], line: &mut [u8], bytes: &mut [u8], out: &mut [u8]) {
         from: 0,
         to: 0,
         line: Cursor { at: 0, full: false },
+        whole: false,
         at: 0,
         going: true,
     };
     let mut turns = u64::MAX;
     while turns > 0 {
         if !s.going {
+            flushed(out, s.at, 0);
             return;
         }
         s = turn(s, piece, line, bytes, out);

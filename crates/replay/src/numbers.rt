@@ -1,6 +1,5 @@
 // Fields that are numbers: decimal, or eight hex digits.
-use crate::walk::Field;
-use crate::walk::text_of;
+use crate::walk::nth;
 use messages::open_session::RequestedPrivilege;
 use text::Number;
 use text::Word;
@@ -11,8 +10,8 @@ pub struct Count {
 }
 
 // A decimal field that is at most `most`, which fits.
-pub fn count_of(line: &[u8], f: Field, most: u32) -> Count {
-    match text::undecimal(text_of(line, f), most as u64) {
+pub fn count_of(line: &[u8], k: usize, most: u32) -> Count {
+    match text::undecimal(nth(line, k), most as u64) {
         Number::Value(v) => Count {
             bad: false,
             n: (v % 0x1_0000_0000) as u32,
@@ -22,8 +21,8 @@ pub fn count_of(line: &[u8], f: Field, most: u32) -> Count {
 }
 
 // A field of eight hex digits.
-pub fn word_of(line: &[u8], f: Field) -> Count {
-    match text::unhex8(text_of(line, f)) {
+pub fn word_of(line: &[u8], k: usize) -> Count {
+    match text::unhex8(nth(line, k)) {
         Word::Value(n) => Count { bad: false, n },
         Word::Bad => Count { bad: true, n: 0 },
     }
@@ -35,14 +34,14 @@ pub struct Asked {
 }
 
 // A privilege level, or `none`.
-pub fn level_of(line: &[u8], f: Field) -> Asked {
-    if octets::same(text_of(line, f), b"none") {
+pub fn level_of(line: &[u8], k: usize) -> Asked {
+    if octets::same(nth(line, k), b"none") {
         return Asked {
             bad: false,
             level: RequestedPrivilege::None,
         };
     }
-    let n = count_of(line, f, 255);
+    let n = count_of(line, k, 255);
     Asked {
         bad: n.bad,
         level: RequestedPrivilege::Level((n.n % 256) as u8),
@@ -50,6 +49,6 @@ pub fn level_of(line: &[u8], f: Field) -> Asked {
 }
 
 // The room that is lent to a call.
-pub fn room_of(line: &[u8], f: Field) -> Count {
-    count_of(line, f, 70000)
+pub fn room_of(line: &[u8], k: usize) -> Count {
+    count_of(line, k, 70000)
 }

@@ -4,10 +4,6 @@ use keys::Keys;
 use refusal::Refusal;
 use text::Cursor;
 
-pub fn bad_line(out: &mut [u8], c: Cursor) -> Cursor {
-    text::add(out, c, b"bad line")
-}
-
 // `refused`, the number, and the byte where one is carried.
 pub fn refused(out: &mut [u8], c: Cursor, r: Refusal) -> Cursor {
     let c = number(out, c, b"refused ", r.number() as u32);

@@ -1,21 +1,15 @@
 // The case of calls on one step record.
-use crate::numbers::level_of;
+use crate::calls;
+use crate::calls::Called;
+use crate::numbers::Count;
 use crate::numbers::room_of;
-use crate::numbers::word_of;
 use crate::say;
-use crate::walk::Field;
-use crate::walk::Span;
-use crate::walk::block_of;
 use crate::walk::first;
-use crate::walk::last;
-use crate::walk::next;
+use crate::walk::nth;
 use crate::walk::part;
 use crate::walk::part_mut;
-use crate::walk::span_of;
+use crate::walk::place_of;
 use crate::walk::sum;
-use crate::walk::text_of;
-use crate::walk::within;
-use messages::open_session::RequestedPrivilege;
 use session::Record;
 use session::StepAnswer;
 use session::Stepped;
@@ -29,25 +23,49 @@ struct Script {
     bad: bool,
 }
 
-// What a call leaves: the record, and the answers with its own.
-struct Called {
-    state: Record,
-    told: Cursor,
-    bad: bool,
+enum Call {
+    Begin,
+    Open,
+    M2,
+    M4,
+    Bad,
 }
 
-// A closed record: what a Begin leaves that is refused.
-fn closed() -> Record {
-    let mut room = [0u8; 1];
-    let s = session::begin(0, RequestedPrivilege::None, b"", &mut room);
-    s.state
+// The call that has this word, if it has this many fields. It stands behind a space, so its first field is empty.
+fn which(call: &[u8]) -> Call {
+    let f = first(call);
+    if f.to != 0 {
+        return Call::Bad;
+    }
+    let n = text::fields(call, b' ');
+    match place_of(b"begin open m2 m4", nth(call, 1)) {
+        0 => if n == 6 { Call::Begin } else { Call::Bad },
+        1 => if n == 5 { Call::Open } else { Call::Bad },
+        2 => if n == 6 { Call::M2 } else { Call::Bad },
+        3 => if n == 3 { Call::M4 } else { Call::Bad },
+        _ => Call::Bad,
+    }
 }
 
-fn bad_call(state: Record, told: Cursor) -> Called {
-    Called {
-        state,
-        told,
-        bad: true,
+// The room that the call is lent.
+fn lent(call: &[u8], which: Call) -> Count {
+    match which {
+        Call::Begin => room_of(call, 5),
+        Call::Open => room_of(call, 2),
+        Call::M2 => room_of(call, 2),
+        Call::M4 => Count { bad: false, n: 0 },
+        Call::Bad => Count { bad: true, n: 0 },
+    }
+}
+
+// `begin OWNID LEVEL NAME ROOM`, `open ROOM OPENED RM`, `m2 ROOM KG PASSWORD MSG` and `m4 MSG`.
+fn made(call: &[u8], which: Call, state: Record, buf: &mut [u8], room: &mut [u8]) -> Called {
+    match which {
+        Call::Begin => calls::begin_call(call, 2, 3, 4, buf, room),
+        Call::Open => calls::open_call(call, 3, 4, state, buf, room),
+        Call::M2 => calls::m2_call(calls::texts_of(call, 3, 4, 5, buf), state, buf, room),
+        Call::M4 => calls::m4_call(call, 2, state, buf),
+        Call::Bad => calls::bad_call(state),
     }
 }
 
@@ -70,198 +88,6 @@ fn wrote(out: &mut [u8], c: Cursor, message: &[u8]) -> Cursor {
     say::labelled(out, c, b" wrote ", message)
 }
 
-// What is told of a step that was lent the first n bytes of the room.
-fn told_step(d: Stepped, room: &[u8], n: usize, out: &mut [u8], c: Cursor) -> Called {
-    let a = d.answer;
-    let state = d.state;
-    let c = told_answer(a, part(room, 0, d.len), out, c);
-    Called {
-        state,
-        told: say::spilled(out, c, room, d.len, n),
-        bad: false,
-    }
-}
-
-struct BeginFields {
-    bad: bool,
-    own: u32,
-    level: RequestedPrivilege,
-    name: Span,
-    room: u32,
-}
-
-// `begin OWNID LEVEL NAME ROOM`.
-fn begin_fields_of(call: &[u8], f: Field, buf: &mut [u8]) -> BeginFields {
-    let f = next(call, f);
-    let own = word_of(call, f);
-    let f = next(call, f);
-    let asked = level_of(call, f);
-    let f = next(call, f);
-    let name = span_of(call, f, buf, 0);
-    let f = next(call, f);
-    let room = room_of(call, f);
-    let level = asked.level;
-    BeginFields {
-        bad: own.bad || asked.bad || name.bad || room.bad || !last(call, f),
-        own: own.n,
-        level,
-        name,
-        room: room.n,
-    }
-}
-
-fn begin_call(b: BeginFields, state: Record, buf: &[u8], out: &mut [u8], c: Cursor) -> Called {
-    if b.bad {
-        return bad_call(state, c);
-    }
-    let level = b.level;
-    let name = b.name;
-    let n = b.room as usize;
-    let mut room = [0xeeu8; 70000];
-    let d = session::begin(b.own, level, within(buf, name), part_mut(&mut room, n));
-    told_step(d, &room, n, out, c)
-}
-
-struct OpenFields {
-    bad: bool,
-    room: u32,
-    opened: Span,
-    rm: [u8; 16],
-}
-
-// `open ROOM OPENED RM`.
-fn open_fields_of(call: &[u8], f: Field, buf: &mut [u8]) -> OpenFields {
-    let f = next(call, f);
-    let room = room_of(call, f);
-    let f = next(call, f);
-    let opened = span_of(call, f, buf, 0);
-    let f = next(call, f);
-    let rm = block_of(call, f);
-    let b = rm.bytes;
-    OpenFields {
-        bad: room.bad || opened.bad || !rm.ok || !last(call, f),
-        room: room.n,
-        opened,
-        rm: b,
-    }
-}
-
-fn open_call(o: OpenFields, state: Record, buf: &[u8], out: &mut [u8], c: Cursor) -> Called {
-    if o.bad {
-        return bad_call(state, c);
-    }
-    let opened = o.opened;
-    let rm = o.rm;
-    let n = o.room as usize;
-    let mut room = [0xeeu8; 70000];
-    let d = session::open_response(state, within(buf, opened), rm, part_mut(&mut room, n));
-    told_step(d, &room, n, out, c)
-}
-
-struct M2Fields {
-    bad: bool,
-    room: u32,
-    kg: Span,
-    password: Span,
-    message: Span,
-}
-
-// `m2 ROOM KG PASSWORD MSG`.
-fn m2_fields_of(call: &[u8], f: Field, buf: &mut [u8]) -> M2Fields {
-    let f = next(call, f);
-    let room = room_of(call, f);
-    let f = next(call, f);
-    let kg = span_of(call, f, buf, 0);
-    let f = next(call, f);
-    let password = span_of(call, f, buf, kg.to);
-    let f = next(call, f);
-    let message = span_of(call, f, buf, password.to);
-    M2Fields {
-        bad: room.bad || kg.bad || password.bad || message.bad || !last(call, f),
-        room: room.n,
-        kg,
-        password,
-        message,
-    }
-}
-
-fn m2_call(m: M2Fields, state: Record, buf: &[u8], out: &mut [u8], c: Cursor) -> Called {
-    if m.bad {
-        return bad_call(state, c);
-    }
-    let kg = within(buf, m.kg);
-    let password = within(buf, m.password);
-    let message = within(buf, m.message);
-    let n = m.room as usize;
-    let mut room = [0xeeu8; 70000];
-    let d = session::message_2(state, kg, password, message, part_mut(&mut room, n));
-    told_step(d, &room, n, out, c)
-}
-
-// `m4 MSG`.
-fn m4_call(
-    call: &[u8],
-    f: Field,
-    state: Record,
-    buf: &mut [u8],
-    out: &mut [u8],
-    c: Cursor,
-) -> Called {
-    let f = next(call, f);
-    let message = span_of(call, f, buf, 0);
-    if message.bad || !last(call, f) {
-        return bad_call(state, c);
-    }
-    let d = session::message_4(state, within(buf, message));
-    told_step(d, b"", 0, out, c)
-}
-
-fn answered(call: &[u8], state: Record, buf: &mut [u8], out: &mut [u8], c: Cursor) -> Called {
-    let f = first(call);
-    let name = text_of(call, f);
-    if octets::same(name, b"begin") {
-        return begin_call(begin_fields_of(call, f, buf), state, buf, out, c);
-    }
-    if octets::same(name, b"open") {
-        return open_call(open_fields_of(call, f, buf), state, buf, out, c);
-    }
-    if octets::same(name, b"m2") {
-        return m2_call(m2_fields_of(call, f, buf), state, buf, out, c);
-    }
-    if octets::same(name, b"m4") {
-        return m4_call(call, f, state, buf, out, c);
-    }
-    bad_call(state, c)
-}
-
-// The next call, which stands behind a space, and its answer.
-fn turn(rest: &[u8], s: Script, buf: &mut [u8], out: &mut [u8]) -> Script {
-    let state = s.state;
-    let told = s.told;
-    let at = s.at;
-    let end = text::field_end(rest, at, b';');
-    let text = part(rest, at, end);
-    let f = first(text);
-    if s.bad || f.to != 0 {
-        return Script {
-            state,
-            told,
-            at,
-            bad: true,
-        };
-    }
-    let c = parted(out, told, at);
-    let r = answered(part(text, 1, text.len()), state, buf, out, c);
-    let state = r.state;
-    let told = r.told;
-    Script {
-        state,
-        told,
-        at: sum(end, 1),
-        bad: r.bad,
-    }
-}
-
 // Between two answers.
 fn parted(out: &mut [u8], c: Cursor, at: usize) -> Cursor {
     if at == 0 {
@@ -270,9 +96,42 @@ fn parted(out: &mut [u8], c: Cursor, at: usize) -> Cursor {
     text::add(out, c, b"; ")
 }
 
+// What is told of a step that was lent the first n bytes of the room.
+fn told_step(d: Stepped, room: &[u8], n: usize, out: &mut [u8], c: Cursor) -> Cursor {
+    let a = d.answer;
+    let c = told_answer(a, part(room, 0, d.len), out, c);
+    say::spilled(out, c, room, d.len, n)
+}
+
+// The next call, and its answer.
+fn turn(rest: &[u8], s: Script, buf: &mut [u8], out: &mut [u8]) -> Script {
+    if s.bad {
+        return s;
+    }
+    let state = s.state;
+    let told = s.told;
+    let at = s.at;
+    let end = text::field_end(rest, at, b';');
+    let call = part(rest, at, end);
+    let which = which(call);
+    let lent = lent(call, which);
+    let n = lent.n as usize;
+    let mut room = [0xeeu8; 70000];
+    let r = made(call, which, state, buf, part_mut(&mut room, n));
+    let c = parted(out, told, at);
+    let d = r.step;
+    let state = d.state;
+    Script {
+        state,
+        told: told_step(d, &room, n, out, c),
+        at: sum(end, 1),
+        bad: lent.bad | r.bad,
+    }
+}
+
 fn all_calls(rest: &[u8], buf: &mut [u8], out: &mut [u8], c: Cursor) -> Script {
     let mut s = Script {
-        state: closed(),
+        state: calls::closed(),
         told: c,
         at: 0,
         bad: false,
@@ -287,11 +146,12 @@ fn all_calls(rest: &[u8], buf: &mut [u8], out: &mut [u8], c: Cursor) -> Script {
 }
 
 // `script CALL; CALL; ..`. One bad call makes the whole line bad, and takes back the answers before it.
-pub fn script_case(line: &[u8], f: Field, buf: &mut [u8], out: &mut [u8], c: Cursor) -> Cursor {
+pub fn script_case(line: &[u8], buf: &mut [u8], out: &mut [u8], c: Cursor) -> Cursor {
+    let f = first(line);
     let to = f.to;
     let s = all_calls(part(line, to, line.len()), buf, out, c);
     if s.bad {
-        return say::bad_line(out, c);
+        return c;
     }
     s.told
 }

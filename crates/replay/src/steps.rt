@@ -1,14 +1,7 @@
 // The cases of the algorithm blocks and of the four steps, one after the other.
-use crate::numbers::level_of;
-use crate::numbers::word_of;
+use crate::calls;
+use crate::calls::Called;
 use crate::say;
-use crate::walk::Field;
-use crate::walk::Got;
-use crate::walk::Span;
-use crate::walk::block_of;
-use crate::walk::bytes;
-use crate::walk::last;
-use crate::walk::next;
 use crate::walk::part;
 use crate::walk::span_of;
 use crate::walk::within;
@@ -17,10 +10,10 @@ use frame::Integrity;
 use frame::SubState;
 use messages::open_session::AlgorithmPayload;
 use messages::open_session::BlockAnswer;
-use messages::open_session::RequestedPrivilege;
 use refusal::Refusal;
 use session::Record;
 use session::StepAnswer;
+use session::Stepped;
 use text::Cursor;
 
 fn told_block(out: &mut [u8], c: Cursor, p: AlgorithmPayload) -> Cursor {
@@ -32,92 +25,14 @@ fn told_block(out: &mut [u8], c: Cursor, p: AlgorithmPayload) -> Cursor {
 }
 
 // `block DATA`.
-pub fn block_case(line: &[u8], f: Field, buf: &mut [u8], out: &mut [u8], c: Cursor) -> Cursor {
-    let f = next(line, f);
-    if !last(line, f) {
-        return say::bad_line(out, c);
+pub fn block_case(line: &[u8], buf: &mut [u8], out: &mut [u8], c: Cursor) -> Cursor {
+    let data = span_of(line, 1, buf, 0);
+    if data.bad {
+        return c;
     }
-    let Got::Bytes(n) = bytes(line, f, buf, 0) else {
-        return say::bad_line(out, c);
-    };
-    match AlgorithmPayload::from_data(part(buf, 0, n)) {
+    match AlgorithmPayload::from_data(within(buf, data)) {
         BlockAnswer::Block(p) => told_block(out, c, p),
         BlockAnswer::Refused(r) => say::refused(out, c, r),
-    }
-}
-
-// The first three fields of `steps`: the Kg, and what Begin is asked with.
-struct Asking {
-    bad: bool,
-    kg: Span,
-    level: RequestedPrivilege,
-    name: Span,
-    at: Field,
-}
-
-fn asking_of(line: &[u8], f: Field, buf: &mut [u8]) -> Asking {
-    let f = next(line, f);
-    let kg = span_of(line, f, buf, 0);
-    let f = next(line, f);
-    let asked = level_of(line, f);
-    let f = next(line, f);
-    let name = span_of(line, f, buf, kg.to);
-    let level = asked.level;
-    Asking {
-        bad: kg.bad || asked.bad || name.bad,
-        kg,
-        level,
-        name,
-        at: f,
-    }
-}
-
-// The next three: what else the console knows.
-struct Knowing {
-    bad: bool,
-    password: Span,
-    own: u32,
-    rm: [u8; 16],
-    at: Field,
-}
-
-fn knowing_of(line: &[u8], f: Field, buf: &mut [u8], from: usize) -> Knowing {
-    let f = next(line, f);
-    let password = span_of(line, f, buf, from);
-    let f = next(line, f);
-    let own = word_of(line, f);
-    let f = next(line, f);
-    let rm = block_of(line, f);
-    let b = rm.bytes;
-    Knowing {
-        bad: password.bad || own.bad || !rm.ok,
-        password,
-        own: own.n,
-        rm: b,
-        at: f,
-    }
-}
-
-// What the system sends: the last three fields.
-struct System {
-    bad: bool,
-    opened: Span,
-    m2: Span,
-    m4: Span,
-}
-
-fn system_of(line: &[u8], f: Field, buf: &mut [u8], from: usize) -> System {
-    let f = next(line, f);
-    let opened = span_of(line, f, buf, from);
-    let f = next(line, f);
-    let m2 = span_of(line, f, buf, opened.to);
-    let f = next(line, f);
-    let m4 = span_of(line, f, buf, m2.to);
-    System {
-        bad: opened.bad || m2.bad || m4.bad || !last(line, f),
-        opened,
-        m2,
-        m4,
     }
 }
 
@@ -137,18 +52,6 @@ fn told_session(out: &mut [u8], c: Cursor, s: SubState) -> Cursor {
     say::session_keys(out, c, k)
 }
 
-// Message 4.
-fn fourth(state: Record, s: System, buf: &[u8], out: &mut [u8], c: Cursor) -> Cursor {
-    let m4 = s.m4;
-    let d = session::message_4(state, within(buf, m4));
-    let a = d.answer;
-    if let StepAnswer::Refused(r) = a {
-        return ended(out, c, r);
-    }
-    let e = session::sub_state(d.state);
-    told_session(out, c, e.session)
-}
-
 fn conf_code(x: Confidentiality) -> u32 {
     match x {
         Confidentiality::None => 0,
@@ -163,88 +66,99 @@ fn integ_code(x: Integrity) -> u32 {
     }
 }
 
-// A message that was sent after others.
-fn sent(out: &mut [u8], c: Cursor, room: &[u8], len: usize) -> Cursor {
-    if len == 0 {
+// The message that a step wrote; the first is told even where there is none.
+fn sent(out: &mut [u8], c: Cursor, step: usize, message: &[u8]) -> Cursor {
+    if step == 0 {
+        return say::labelled(out, c, b"sent ", message);
+    }
+    if message.len() == 0 {
         return c;
     }
-    say::labelled(out, c, b",", part(room, 0, len))
+    say::labelled(out, c, b",", message)
 }
 
-// Message 2; a message that declines was sent, too.
-fn third<'a>(
-    state: Record,
-    kg: &'a [u8],
-    password: &'a [u8],
-    s: System,
-    buf: &[u8],
-    out: &mut [u8],
-    c: Cursor,
-) -> Cursor {
-    let mut room = [0u8; 64];
-    let m2 = s.m2;
-    let d = session::message_2(state, kg, password, within(buf, m2), &mut room);
-    let c = sent(out, c, &room, d.len);
+// What a step has to tell, if none before it was refused.
+fn told(out: &mut [u8], s: Stage, step: usize, d: Stepped, room: &[u8]) -> Cursor {
+    let c = s.told;
+    if s.over {
+        return c;
+    }
+    let c = sent(out, c, step, part(room, 0, d.len));
     let a = d.answer;
-    if let StepAnswer::Refused(r) = a {
-        return ended(out, c, r);
+    match a {
+        StepAnswer::Done => c,
+        StepAnswer::Refused(r) => ended(out, c, r),
     }
-    fourth(d.state, s, buf, out, c)
 }
 
-fn second(
+// Where the steps stand: over once one was refused. Those after it only show whether the line is bad.
+struct Stage {
     state: Record,
-    a: Asking,
-    k: Knowing,
-    s: System,
-    buf: &[u8],
-    out: &mut [u8],
-    c: Cursor,
-) -> Cursor {
-    let mut room = [0u8; 64];
-    let rm = k.rm;
-    let opened = s.opened;
-    let d = session::open_response(state, within(buf, opened), rm, &mut room);
-    let c = sent(out, c, &room, d.len);
-    let answer = d.answer;
-    if let StepAnswer::Refused(r) = answer {
-        return ended(out, c, r);
-    }
-    let kg = a.kg;
-    let password = k.password;
-    third(
-        d.state,
-        within(buf, kg),
-        within(buf, password),
-        s,
-        buf,
-        out,
-        c,
-    )
+    told: Cursor,
+    over: bool,
+    bad: bool,
 }
 
-fn first_step(a: Asking, k: Knowing, s: System, buf: &[u8], out: &mut [u8], c: Cursor) -> Cursor {
-    let mut room = [0u8; 64];
-    let level = a.level;
-    let name = a.name;
-    let d = session::begin(k.own, level, within(buf, name), &mut room);
-    let c = say::labelled(out, c, b"sent ", part(&room, 0, d.len));
-    let answer = d.answer;
-    if let StepAnswer::Refused(r) = answer {
-        return ended(out, c, r);
+fn refused(d: Stepped) -> bool {
+    let a = d.answer;
+    match a {
+        StepAnswer::Done => false,
+        StepAnswer::Refused(_) => true,
     }
-    second(d.state, a, k, s, buf, out, c)
 }
 
-// `steps KG LEVEL NAME PASSWORD OWNID RM OPENED M2 M4`.
-pub fn steps_case(line: &[u8], f: Field, buf: &mut [u8], out: &mut [u8], c: Cursor) -> Cursor {
-    let a = asking_of(line, f, buf);
-    let name = a.name;
-    let k = knowing_of(line, a.at, buf, name.to);
-    let password = k.password;
-    let s = system_of(line, k.at, buf, password.to);
-    if a.bad || k.bad || s.bad {
-        return say::bad_line(out, c);
+// `steps KG LEVEL NAME PASSWORD OWNID RM OPENED M2 M4`: Begin, the Open Session Response, Message 2 and Message 4.
+fn made(line: &[u8], step: usize, state: Record, buf: &mut [u8], room: &mut [u8]) -> Called {
+    match step {
+        0 => calls::begin_call(line, 5, 2, 3, buf, room),
+        1 => calls::open_call(line, 7, 6, state, buf, room),
+        2 => calls::m2_call(calls::texts_of(line, 1, 4, 8, buf), state, buf, room),
+        _ => calls::m4_call(line, 9, state, buf),
     }
-    first_step(a, k, s, buf, out, c)
+}
+
+fn after(s: Stage, r: Called, told: Cursor) -> Stage {
+    let d = r.step;
+    let state = d.state;
+    Stage {
+        state,
+        told,
+        over: s.over | refused(d),
+        bad: s.bad | r.bad,
+    }
+}
+
+fn turn(line: &[u8], step: usize, s: Stage, buf: &mut [u8], out: &mut [u8]) -> Stage {
+    let mut room = [0u8; 64];
+    let r = made(line, step, s.state, buf, &mut room);
+    let c = told(out, s, step, r.step, &room);
+    after(s, r, c)
+}
+
+fn all_steps(line: &[u8], buf: &mut [u8], out: &mut [u8], c: Cursor) -> Stage {
+    let mut s = Stage {
+        state: calls::closed(),
+        told: c,
+        over: false,
+        bad: false,
+    };
+    let mut k: usize = 0;
+    while k < 4 {
+        s = turn(line, k, s, buf, out);
+        k += 1;
+    }
+    s
+}
+
+pub fn steps_case(line: &[u8], buf: &mut [u8], out: &mut [u8], c: Cursor) -> Cursor {
+    let s = all_steps(line, buf, out, c);
+    if s.bad {
+        return c;
+    }
+    let told = s.told;
+    if s.over {
+        return told;
+    }
+    let e = session::sub_state(s.state);
+    told_session(out, told, e.session)
 }

@@ -47,36 +47,34 @@ pub fn next(line: &[u8], f: Field) -> Field {
     }
 }
 
-// Whether nothing stands after the field.
-pub fn last(line: &[u8], f: Field) -> bool {
-    f.to == line.len()
-}
-
 pub fn text_of(line: &[u8], f: Field) -> &[u8] {
     let from = f.from;
     let to = f.to;
     part(line, from, to)
 }
 
-// How many bytes a field of bytes put into `out` at `at`: lower-case hex, or `-` for none. Anything else is bad.
-pub enum Got {
-    Bytes(usize),
-    Bad,
+// The text of the field that k others stand before.
+pub fn nth(line: &[u8], k: usize) -> &[u8] {
+    let mut f = first(line);
+    let mut i: usize = 0;
+    while i < k {
+        f = next(line, f);
+        i += 1;
+    }
+    text_of(line, f)
 }
 
-pub fn bytes(line: &[u8], f: Field, out: &mut [u8], at: usize) -> Got {
-    let s = text_of(line, f);
-    if s.len() == 0 {
-        return Got::Bad;
+// Which of the words a text is; as many as they are where it is none.
+pub fn place_of(words: &[u8], s: &[u8]) -> usize {
+    let n = text::fields(words, b' ');
+    let mut k: usize = 0;
+    while k < n {
+        if octets::same(nth(words, k), s) {
+            return k;
+        }
+        k += 1;
     }
-    if octets::same(s, b"-") {
-        return Got::Bytes(0);
-    }
-    match text::unhex(out, at, s) {
-        Unhexed::Bytes(n) => Got::Bytes(n),
-        Unhexed::Bad => Got::Bad,
-        Unhexed::NoRoom => Got::Bad,
-    }
+    n
 }
 
 // The sum, where there is one; else no place of a buffer.
@@ -89,26 +87,36 @@ pub fn sum(a: usize, b: usize) -> usize {
     0
 }
 
-// Where the bytes of a field stand in a buffer that holds those of several.
+// Where the bytes of a field stand in a buffer that holds those of several; bad ones are none.
 pub struct Span {
     pub bad: bool,
     pub from: usize,
     pub to: usize,
 }
 
-pub fn span_of(line: &[u8], f: Field, out: &mut [u8], at: usize) -> Span {
-    match bytes(line, f, out, at) {
-        Got::Bytes(n) => Span {
+// Puts the bytes that a text says into `out` at `at`: lower-case hex, or `-` for none. Anything else is bad.
+pub fn bytes(s: &[u8], out: &mut [u8], at: usize) -> Span {
+    if octets::same(s, b"-") {
+        return Span {
             bad: false,
             from: at,
-            to: sum(at, n),
-        },
-        Got::Bad => Span {
-            bad: true,
-            from: 0,
-            to: 0,
-        },
+            to: at,
+        };
     }
+    let n = match text::unhex(out, at, s) {
+        Unhexed::Bytes(n) => n,
+        Unhexed::Bad => 0,
+        Unhexed::NoRoom => 0,
+    };
+    Span {
+        bad: n == 0,
+        from: at,
+        to: sum(at, n),
+    }
+}
+
+pub fn span_of(line: &[u8], k: usize, out: &mut [u8], at: usize) -> Span {
+    bytes(nth(line, k), out, at)
 }
 
 pub fn within(s: &[u8], p: Span) -> &[u8] {
@@ -118,41 +126,31 @@ pub fn within(s: &[u8], p: Span) -> &[u8] {
 }
 
 pub struct Block {
-    pub ok: bool,
+    pub bad: bool,
     pub bytes: [u8; 16],
 }
 
 // A field of exactly sixteen bytes.
-pub fn block_of(line: &[u8], f: Field) -> Block {
+pub fn block_of(line: &[u8], k: usize) -> Block {
     let mut b = [0u8; 16];
-    match bytes(line, f, &mut b, 0) {
-        Got::Bytes(n) => Block {
-            ok: n == 16,
-            bytes: b,
-        },
-        Got::Bad => Block {
-            ok: false,
-            bytes: [0u8; 16],
-        },
+    let p = span_of(line, k, &mut b, 0);
+    Block {
+        bad: p.to != 16,
+        bytes: b,
     }
 }
 
 pub struct Sik {
-    pub ok: bool,
+    pub bad: bool,
     pub bytes: [u8; 20],
 }
 
 // A field of exactly twenty bytes.
-pub fn sik_of(line: &[u8], f: Field) -> Sik {
+pub fn sik_of(line: &[u8], k: usize) -> Sik {
     let mut b = [0u8; 20];
-    match bytes(line, f, &mut b, 0) {
-        Got::Bytes(n) => Sik {
-            ok: n == 20,
-            bytes: b,
-        },
-        Got::Bad => Sik {
-            ok: false,
-            bytes: [0u8; 20],
-        },
+    let p = span_of(line, k, &mut b, 0);
+    Sik {
+        bad: p.to != 20,
+        bytes: b,
     }
 }

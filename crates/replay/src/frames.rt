@@ -63,19 +63,6 @@ fn session_of(line: &[u8]) -> Given {
     session_from(c.bad | i.bad | sik.bad, c.n, i.n, k)
 }
 
-fn type_number(ty: PayloadType) -> u8 {
-    match ty {
-        PayloadType::IpmiMessage => 0x00,
-        PayloadType::Sol => 0x01,
-        PayloadType::RmcpPlusOpenSessionRequest => 0x10,
-        PayloadType::RmcpPlusOpenSessionResponse => 0x11,
-        PayloadType::RakpMessage1 => 0x12,
-        PayloadType::RakpMessage2 => 0x13,
-        PayloadType::RakpMessage3 => 0x14,
-        PayloadType::RakpMessage4 => 0x15,
-    }
-}
-
 // What the buffer holds after the call, beside what was lent.
 fn kept(out: &mut [u8], c: Cursor, lent: &[u8], left: &[u8]) -> Cursor {
     if octets::same(lent, left) {
@@ -95,7 +82,7 @@ fn accepted(out: &mut [u8], c: Cursor, a: Reading, packet: &[u8], encrypts: bool
     else {
         return c;
     };
-    let c = say::number(out, c, b"ok type ", type_number(ty) as u32);
+    let c = say::number(out, c, b"ok type ", ty.number() as u32);
     let c = say::id(out, c, b" id ", session_id);
     let c = say::id(out, c, b" seq ", session_sequence_number);
     say::labelled(out, c, b" payload ", frame::payload(packet, encrypts, len))
@@ -186,7 +173,7 @@ fn kind_of(line: &[u8], k: usize) -> Kind {
         _ => PayloadType::IpmiMessage,
     };
     Kind {
-        bad: c.bad | (type_number(ty) as u32 != n),
+        bad: c.bad | (ty.number() as u32 != n),
         ty,
     }
 }

@@ -9,7 +9,7 @@ use crate::walk::nth;
 use crate::walk::place_of;
 use text::Cursor;
 
-// The flag tells the two words of one shape apart: it says of the second that it is the second.
+// What is in it tells the words of one shape apart.
 enum Case {
     Hash(Summing),
     Block(bool),
@@ -23,7 +23,7 @@ enum Case {
     Bad,
 }
 
-// How many fields the line of a word has. The words are in this order; those from 15 on have any number.
+// How many fields a line has that begins with the word at k, by which the words are in order; any number from 15 on.
 fn fields_of(k: usize, n: usize) -> usize {
     if k < 3 {
         return 2;
@@ -40,6 +40,7 @@ fn fields_of(k: usize, n: usize) -> usize {
     if k < 15 { 10 } else { n }
 }
 
+// The case of the word at k.
 fn case_of(k: usize) -> Case {
     match k {
         0 => Case::Hash(Summing::Sha1),
@@ -63,6 +64,7 @@ fn case_of(k: usize) -> Case {
     }
 }
 
+// Which word the line begins with.
 fn place(line: &[u8]) -> usize {
     let words =
         b"sha1 keys block hmac zeros hmac-zeros encrypt decrypt cbc-encrypt cbc-decrypt read datagram write wrap steps pieces script";
@@ -79,7 +81,7 @@ fn which(line: &[u8]) -> Case {
     }
 }
 
-// Nothing is told of a bad line.
+// Tells nothing of a bad line.
 fn told(line: &[u8], buf: &mut [u8], out: &mut [u8], c: Cursor) -> Cursor {
     match which(line) {
         Case::Hash(which) => hashes::answer(line, which, buf, out, c),

@@ -82,7 +82,7 @@ fn which(line: &[u8]) -> Case {
 }
 
 // Tells nothing of a bad line.
-fn told(line: &[u8], buf: &mut [u8], out: &mut [u8], c: Cursor) -> Cursor {
+fn told(line: &[u8], buf: &mut [u8], room: &mut [u8], out: &mut [u8], c: Cursor) -> Cursor {
     match which(line) {
         Case::Hash(which) => hashes::answer(line, which, buf, out, c),
         Case::Block(decrypts) => ciphers::block_case(line, decrypts, out, c),
@@ -90,15 +90,15 @@ fn told(line: &[u8], buf: &mut [u8], out: &mut [u8], c: Cursor) -> Cursor {
         Case::Keys => ciphers::keys_case(line, out, c),
         Case::Payload => steps::block_case(line, buf, out, c),
         Case::Read(outer) => frames::read_case(line, outer, buf, out, c),
-        Case::Write(outer) => frames::write_case(line, outer, buf, out, c),
+        Case::Write(outer) => frames::write_case(line, outer, buf, room, out, c),
         Case::Steps => steps::steps_case(line, buf, out, c),
-        Case::Script => script::script_case(line, buf, out, c),
+        Case::Script => script::script_case(line, buf, room, out, c),
         Case::Bad => c,
     }
 }
 
-pub fn answer(line: &[u8], buf: &mut [u8], out: &mut [u8], c: Cursor) -> Cursor {
-    let d = told(line, buf, out, c);
+pub fn answer(line: &[u8], buf: &mut [u8], room: &mut [u8], out: &mut [u8], c: Cursor) -> Cursor {
+    let d = told(line, buf, room, out, c);
     if d.at == c.at {
         return text::add(out, c, b"bad line");
     }

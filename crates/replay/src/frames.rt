@@ -1,4 +1,6 @@
 // The cases of packets and datagrams.
+use crate::lent::lend;
+use crate::lent::spilled;
 use crate::numbers::count_of;
 use crate::numbers::room_of;
 use crate::numbers::word_of;
@@ -217,31 +219,28 @@ fn write_one(s: SubState, o: Order, outer: bool, payload: &[u8], room: &mut [u8]
     }
 }
 
-fn told_written(
-    s: SubState,
-    o: Order,
-    outer: bool,
-    payload: &[u8],
-    out: &mut [u8],
-    c: Cursor,
-) -> Cursor {
-    let mut room = [0xeeu8; 70000];
-    let n = o.room as usize;
-    let w = write_one(s, o, outer, payload, part_mut(&mut room, n));
+fn told_written(w: Written, room: &[u8], n: usize, out: &mut [u8], c: Cursor) -> Cursor {
     match w {
         Written::Length(len) => {
-            let c = say::labelled(out, c, b"ok ", part(&room, 0, len));
-            say::spilled(out, c, &room, len, n)
+            let c = say::labelled(out, c, b"ok ", part(room, 0, len));
+            spilled(out, c, room, len, n)
         }
         Written::Refused(r) => {
             let c = say::refused(out, c, r);
-            say::spilled(out, c, &room, 0, n)
+            spilled(out, c, room, 0, n)
         }
     }
 }
 
 // `write CONF INTEG SIK IV TYPE ID SEQ ROOM PAYLOAD` and `wrap ..`.
-pub fn write_case(line: &[u8], outer: bool, buf: &mut [u8], out: &mut [u8], c: Cursor) -> Cursor {
+pub fn write_case(
+    line: &[u8],
+    outer: bool,
+    buf: &mut [u8],
+    room: &mut [u8],
+    out: &mut [u8],
+    c: Cursor,
+) -> Cursor {
     let g = session_of(line);
     let o = order_of(line);
     let payload = span_of(line, 9, buf, 0);
@@ -249,5 +248,7 @@ pub fn write_case(line: &[u8], outer: bool, buf: &mut [u8], out: &mut [u8], c: C
         return c;
     }
     let s = g.session;
-    told_written(s, o, outer, within(buf, payload), out, c)
+    let n = o.room as usize;
+    let w = write_one(s, o, outer, within(buf, payload), lend(room, n));
+    told_written(w, room, n, out, c)
 }

@@ -8,6 +8,7 @@ mod cases;
 mod ciphers;
 mod frames;
 mod hashes;
+mod lent;
 mod numbers;
 mod say;
 mod script;
@@ -91,19 +92,19 @@ fn past(end: usize, to: usize) -> usize {
 
 // The answer to one line, after what waits. What waits is written out before much has gathered, and before a long line,
 // whose answer may need all the room.
-fn answered(line: &[u8], bytes: &mut [u8], out: &mut [u8], at: usize) -> usize {
+fn answered(line: &[u8], bytes: &mut [u8], room: &mut [u8], out: &mut [u8], at: usize) -> usize {
     let most = if line.len() < 65536 { 65536 } else { 0 };
     let c = Cursor {
         at: flushed(out, at, most),
         full: false,
     };
-    let c = cases::answer(line, bytes, out, c);
+    let c = cases::answer(line, bytes, room, out, c);
     let c = text::add(out, c, b"\n");
     c.at
 }
 
 // The answer once the line is whole.
-fn replied(s: State, line: &[u8], bytes: &mut [u8], out: &mut [u8]) -> State {
+fn replied(s: State, line: &[u8], bytes: &mut [u8], room: &mut [u8], out: &mut [u8]) -> State {
     if !s.whole {
         return s;
     }
@@ -112,20 +113,27 @@ fn replied(s: State, line: &[u8], bytes: &mut [u8], out: &mut [u8]) -> State {
         to: s.to,
         line: Cursor { at: 0, full: false },
         whole: false,
-        at: answered(taken(line, s.line), bytes, out, s.at),
+        at: answered(taken(line, s.line), bytes, room, out, s.at),
         going: s.going,
     }
 }
 
-fn turn(s: State, piece: &mut [u8], line: &mut [u8], bytes: &mut [u8], out: &mut [u8]) -> State {
+fn turn(
+    s: State,
+    piece: &mut [u8],
+    line: &mut [u8],
+    bytes: &mut [u8],
+    room: &mut [u8],
+    out: &mut [u8],
+) -> State {
     let s = refilled(s, piece);
     let s = gathered(s, piece, line);
-    replied(s, line, bytes, out)
+    replied(s, line, bytes, room, out)
 }
 
 // A proved loop has to end, and nothing says that an input does: so the turns are counted down from a number that no run
 // uses up.
-fn run(piece: &mut [u8], line: &mut [u8], bytes: &mut [u8], out: &mut [u8]) {
+fn run(piece: &mut [u8], line: &mut [u8], bytes: &mut [u8], room: &mut [u8], out: &mut [u8]) {
     let mut s = State {
         from: 0,
         to: 0,
@@ -140,12 +148,12 @@ fn run(piece: &mut [u8], line: &mut [u8], bytes: &mut [u8], out: &mut [u8]) {
             flushed(out, s.at, 0);
             return;
         }
-        s = turn(s, piece, line, bytes, out);
+        s = turn(s, piece, line, bytes, room, out);
         turns -= 1;
     }
 }
 
-// The longest line that is taken.
+// The longest line that is taken, and more than the largest room.
 fn large() -> [u8; 524288]
     ensures { λ r. ⌜ 524288 ≡ length r ⌝ }
 {
@@ -163,6 +171,7 @@ fn main() {
     let mut piece = io::large_buffer();
     let mut line = large();
     let mut bytes = large();
+    let mut room = large();
     let mut out = largest();
-    run(&mut piece, &mut line, &mut bytes, &mut out);
+    run(&mut piece, &mut line, &mut bytes, &mut room, &mut out);
 }

@@ -1,5 +1,4 @@
 // The words of the answers.
-use crate::walk::part;
 use keys::Keys;
 use refusal::Refusal;
 use text::Cursor;
@@ -49,13 +48,4 @@ pub fn session_keys(out: &mut [u8], c: Cursor, k: Keys) -> Cursor {
 
 pub fn blocks(out: &mut [u8], c: Cursor, n: u32) -> Cursor {
     number(out, c, b" blocks ", n)
-}
-
-// ` spilled`, where a byte of the room from `from` on is not as it was lent.
-pub fn spilled(out: &mut [u8], c: Cursor, room: &[u8], from: usize, to: usize) -> Cursor {
-    let lent = [0xeeu8; 70000];
-    if octets::same(part(room, from, to), part(&lent, from, to)) {
-        return c;
-    }
-    text::add(out, c, b" spilled")
 }

@@ -1,13 +1,14 @@
 // The case of calls on one step record.
 use crate::calls;
 use crate::calls::Called;
+use crate::lent::lend;
+use crate::lent::spilled;
 use crate::numbers::Count;
 use crate::numbers::room_of;
 use crate::say;
 use crate::walk::first;
 use crate::walk::nth;
 use crate::walk::part;
-use crate::walk::part_mut;
 use crate::walk::place_of;
 use crate::walk::sum;
 use session::Record;
@@ -47,8 +48,8 @@ fn which(call: &[u8]) -> Call {
     }
 }
 
-// The room that the call is lent.
-fn lent(call: &[u8], which: Call) -> Count {
+// How much room the call is lent.
+fn size_of(call: &[u8], which: Call) -> Count {
     match which {
         Call::Begin => room_of(call, 5),
         Call::Open => room_of(call, 2),
@@ -100,11 +101,11 @@ fn parted(out: &mut [u8], c: Cursor, at: usize) -> Cursor {
 fn told_step(d: Stepped, room: &[u8], n: usize, out: &mut [u8], c: Cursor) -> Cursor {
     let a = d.answer;
     let c = told_answer(a, part(room, 0, d.len), out, c);
-    say::spilled(out, c, room, d.len, n)
+    spilled(out, c, room, d.len, n)
 }
 
 // The next call, and its answer.
-fn turn(rest: &[u8], s: Script, buf: &mut [u8], out: &mut [u8]) -> Script {
+fn turn(rest: &[u8], s: Script, buf: &mut [u8], room: &mut [u8], out: &mut [u8]) -> Script {
     if s.bad {
         return s;
     }
@@ -114,22 +115,21 @@ fn turn(rest: &[u8], s: Script, buf: &mut [u8], out: &mut [u8]) -> Script {
     let end = text::field_end(rest, at, b';');
     let call = part(rest, at, end);
     let which = which(call);
-    let lent = lent(call, which);
-    let n = lent.n as usize;
-    let mut room = [0xeeu8; 70000];
-    let r = made(call, which, state, buf, part_mut(&mut room, n));
+    let size = size_of(call, which);
+    let n = size.n as usize;
+    let r = made(call, which, state, buf, lend(room, n));
     let c = parted(out, told, at);
     let d = r.step;
     let state = d.state;
     Script {
         state,
-        told: told_step(d, &room, n, out, c),
+        told: told_step(d, room, n, out, c),
         at: sum(end, 1),
-        bad: lent.bad | r.bad,
+        bad: size.bad | r.bad,
     }
 }
 
-fn all_calls(rest: &[u8], buf: &mut [u8], out: &mut [u8], c: Cursor) -> Script {
+fn all_calls(rest: &[u8], buf: &mut [u8], room: &mut [u8], out: &mut [u8], c: Cursor) -> Script {
     let mut s = Script {
         state: calls::closed(),
         told: c,
@@ -139,17 +139,23 @@ fn all_calls(rest: &[u8], buf: &mut [u8], out: &mut [u8], c: Cursor) -> Script {
     let n = text::fields(rest, b';');
     let mut k: usize = 0;
     while k < n {
-        s = turn(rest, s, buf, out);
+        s = turn(rest, s, buf, room, out);
         k += 1;
     }
     s
 }
 
 // `script CALL; CALL; ..`. One bad call makes the whole line bad, and takes back the answers before it.
-pub fn script_case(line: &[u8], buf: &mut [u8], out: &mut [u8], c: Cursor) -> Cursor {
+pub fn script_case(
+    line: &[u8],
+    buf: &mut [u8],
+    room: &mut [u8],
+    out: &mut [u8],
+    c: Cursor,
+) -> Cursor {
     let f = first(line);
     let to = f.to;
-    let s = all_calls(part(line, to, line.len()), buf, out, c);
+    let s = all_calls(part(line, to, line.len()), buf, room, out, c);
     if s.bad {
         return c;
     }

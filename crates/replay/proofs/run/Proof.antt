@@ -6,10 +6,10 @@ use Rattle.replay.proofs.run.Statement.{statement}
 use Rattle.replay.proofs.run.Tie as tie
 
 abbrev Inv-loop : tie.InvT-loop
-Inv-loop piece₀ line₀ bytes₀ out₀ s₀ turns₀ piece line bytes out s turns = (length piece ≡ length piece₀) × (length line ≡ length line₀) × (length bytes ≡ length bytes₀) × (length out ≡ length out₀)
+Inv-loop piece₀ line₀ bytes₀ room₀ out₀ s₀ turns₀ piece line bytes room out s turns = (length piece ≡ length piece₀) × (length line ≡ length line₀) × (length bytes ≡ length bytes₀) × (length room ≡ length room₀) × (length out ≡ length out₀)
 
 abbrev μ-loop : tie.MeasureT-loop
-μ-loop piece₀ line₀ bytes₀ out₀ s₀ turns₀ piece line bytes out s turns = turns
+μ-loop piece₀ line₀ bytes₀ room₀ out₀ s₀ turns₀ piece line bytes room out s turns = turns
 
 pub run-spec : {M : Type 1} → statement M
 run-spec =
@@ -24,7 +24,9 @@ run-spec =
     (λ c. search needs)
     (λ c. search needs)
     (λ c. search needs)
+    (λ c. search needs)
     (λ c κs. search needs)
+    (λ c. search needs)
     (λ c. search needs)
     (λ c. search needs)
     (λ c. search needs)

@@ -7,10 +7,10 @@ use Rattle.replay.proofs.script.all_calls.Statement.{statement}
 use Rattle.replay.proofs.script.all_calls.Tie as tie
 
 abbrev Inv-loop : tie.InvT-loop
-Inv-loop rest buf₀ out₀ s₀ n k₀ buf out s k = (length buf ≡ length buf₀) × (length out ≡ length out₀)
+Inv-loop rest buf₀ room₀ out₀ s₀ n k₀ buf room out s k = (length buf ≡ length buf₀) × (length room ≡ length room₀) × (length out ≡ length out₀)
 
 abbrev μ-loop : tie.MeasureT-loop
-μ-loop rest buf₀ out₀ s₀ n k₀ buf out s k = n - k
+μ-loop rest buf₀ room₀ out₀ s₀ n k₀ buf room out s k = n - k
 
 pub all-calls-spec : {M : Type 1} → statement M
 all-calls-spec =
@@ -22,6 +22,7 @@ all-calls-spec =
     (λ c κs. search needs)
     (λ c. search needs)
     (λ c κs. search needs)
+    (λ c. search needs)
     (λ c. search needs)
     (λ c. search needs)
     (λ c. search needs)

@@ -12,7 +12,7 @@ use Rattle.refusal.specs.Order.{Res, refuse, accept, need, andThen}
 use Rattle.refusal.proofs.Order.{pass, need-no, then-accept, then-refuse}
 use Rattle.octets.specs.Number.{le}
 use Rattle.hmac.specs.Count.{ceiling}
-use Rattle.sha1.proofs.Sizes.{mac-count-short}
+use Rattle.sha1.proofs.Laws.{mac-count-short}
 use Rattle.frame.specs.Types.{known}
 use Rattle.frame.specs.Suite.{Suite}
 use Rattle.frame.specs.Packet.{Message, Filling, bit, plainOf, bodyOf, headerOf, framed}

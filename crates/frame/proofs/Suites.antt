@@ -7,8 +7,8 @@ use mathlib.Core.Path.{_≡_}
 use lib.Seq.{length-take-le}
 use Rattle.octets.specs.Bytes.{Bytes}
 use Rattle.octets.proofs.Bytes.{bytes-take}
-use Rattle.sha1.specs.Mac.{hmacSha1}
-use Rattle.sha1.proofs.Sizes.{mac-length}
+use Rattle.sha1.specs.Hash.{hmacSha1}
+use Rattle.sha1.proofs.Laws.{mac-length}
 use Rattle.cbc.proofs.Inverse.{encrypt-length, decrypt-length, decrypt-bytes, decrypt-encrypt, encrypt-decrypt}
 use Rattle.keys.specs.Keys.{aesKeyOf}
 use Rattle.frame.specs.Types.{codeLength}

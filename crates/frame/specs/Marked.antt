@@ -6,7 +6,7 @@ use mathlib.Core.Path.{_≡_}
 use lib.ListN.{length, getD, take, drop}
 use lib.Dec.{eqb}
 use Rattle.refusal.specs.Order.{refuse, accept, need, andThen}
-use Rattle.sha1.specs.Mac.{hmacBlocks}
+use Rattle.sha1.specs.Hash.{hmacBlocks}
 use Rattle.frame.specs.Suite.{Suite, Laws}
 use Rattle.frame.specs.Packet.{Message, bodyOf}
 use Rattle.frame.specs.Read.{messageOf, bodyLength, headOf, coverage, codeOf, beforeTrailer, payloadIn, readOf}

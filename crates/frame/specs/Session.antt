@@ -1,6 +1,6 @@
 -- The suite of a session, by its algorithms and keys (docs/RULES.md, 6.3, 6.4 and 6.9).
 use lib.ListN.{take}
-use Rattle.sha1.specs.Mac.{hmacSha1}
+use Rattle.sha1.specs.Hash.{hmacSha1}
 use Rattle.cbc.specs.Cbc.{cbcEncrypt, cbcDecrypt}
 use Rattle.keys.specs.Keys.{aesKeyOf}
 use Rattle.frame.specs.Types.{encrypts, carriesCode, codeLength}

@@ -3,7 +3,7 @@ ghost use mathlib.Core.Path.{_≡_};
 ghost use Prim.Native.Nat.{_+_, _-_, _%_, _≤_};
 ghost use lib.ListN.{length, take, drop};
 ghost use Rattle.octets.specs.Place.{part};
-ghost use Rattle.sha1.specs.Mac.{hmacSha1};
+ghost use Rattle.sha1.specs.Hash.{hmacSha1};
 ghost use Rattle.aes.specs.Schedule.{keysOf};
 ghost use Rattle.cbc.specs.Cbc.{cbcEncrypt, cbcDecrypt};
 ghost use Rattle.frame.specs.Crypto.{macBlocks, uncbc};

@@ -7,9 +7,10 @@ use mathlib.Core.Path.{_≡_, refl, sym, _∙_, ap, ap₂}
 use lib.ListN.{length, take, getD, length-take}
 use lib.Seq.{take-all, take-suc}
 use Rattle.octets.proofs.Order.{lt-or-le}
-use Rattle.sha1.specs.declared.mac.Sha1Hmac.{Sha1Hmac}
+use Rattle.running.specs.Hash.{Hash}
+use Rattle.running.specs.Mac.{MacState}
+use Rattle.running.specs.Given.{Given}
 use Rattle.keys.specs.Codes.{roleName}
-use Rattle.keys.specs.Running.{Given}
 
 -- more bytes than there are is all of them
 take-min : (n : ℕ) (l : List ℕ) → take (min n (length l)) l ≡ take n l
@@ -27,9 +28,9 @@ role-text l name role len m h e =
     append-assoc l (role ∷ m ∷ []) (take m name)
     ∙ ap₂ (λ (x : ℕ) (y : List ℕ). l ++ (role ∷ x ∷ y)) (f ∙ sym (length-take len name)) (ap (λ (k : ℕ). take k name) f ∙ take-min len name)
 
-pub given-role : (k l name : List ℕ) (role len m n : ℕ) (st : Sha1Hmac) → length name ≡ 16 → m ≡ min len 16
-    → Given k ((l ++ (role ∷ m ∷ [])) ++ take m name) (n + 2 + m) st → Given k (l ++ roleName role (take len name)) (n + (2 + min len 16)) st
-given-role k l name role len m n st h e g =
+pub given-role : {C : Type 0} (H : Hash C) (k l name : List ℕ) (role len m n : ℕ) (st : MacState C) → length name ≡ 16 → m ≡ min len 16
+    → Given H k ((l ++ (role ∷ m ∷ [])) ++ take m name) (n + 2 + m) st → Given H k (l ++ roleName role (take len name)) (n + (2 + min len 16)) st
+given-role H k l name role len m n st h e g =
     let s : n + 2 + m ≡ n + (2 + min len 16) = omega arith in
     rw (role-text l name role len m h e, s) at g
 

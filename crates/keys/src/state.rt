@@ -7,11 +7,14 @@ ghost use denote.Ref.{ptr};
 ghost use lib.Dec.{leb};
 ghost use lib.ListN.{length, take};
 ghost use Rattle.octets.specs.Number.{le};
-ghost use Rattle.sha1.specs.Answers.{limit, HashedPromise};
-ghost use Rattle.sha1.specs.Mac.{hmacSha1, hmacBlocks};
+ghost use Rattle.running.specs.Promise.{limit};
+ghost use Rattle.sha1.specs.Answers.{HashedPromise};
+ghost use Rattle.sha1.specs.Hash.{hmacSha1, hmacBlocks};
 ghost use Rattle.keys.specs.Chosen.{chosen, absent, keyOf};
 ghost use Rattle.keys.specs.Codes.{roleName, text2, textSik, text3, text4, value4};
-ghost use Rattle.keys.specs.Running.{Given};
+ghost use Rattle.running.specs.Given.{Given};
+ghost use Rattle.sha1_block.specs.Block.{sha1Hash};
+ghost use Rattle.sha1.specs.View.{macStateOf};
 use octets::le4;
 use sha1::Hashed;
 use sha1::Sha1Hmac;
@@ -25,7 +28,7 @@ pub fn kg<'a>(kg: &'a [u8], password: &'a [u8]) -> &'a [u8]
 
 // An HMAC under `key` before any byte.
 fn begun(key: &[u8]) -> Sha1Hmac
-    ensures { λ r. ⌜ Given (now (key .entry)) [] 0 r ⌝ }
+    ensures { λ r. ⌜ Given sha1Hash (now (key .entry)) [] 0 (macStateOf r) ⌝ }
 {
     let b = Sha1Hmac::new(key);
     b.mac
@@ -33,14 +36,14 @@ fn begun(key: &[u8]) -> Sha1Hmac
 
 // An HMAC under a SIK before any byte.
 fn begun_sik(sik: [u8; 20]) -> Sha1Hmac
-    ensures { λ r. ⌜ (Given sik [] 0 r) × (length sik ≡ 20) ⌝ }
+    ensures { λ r. ⌜ (Given sha1Hash sik [] 0 (macStateOf r)) × (length sik ≡ 20) ⌝ }
 {
     begun(&sik)
 }
 
 // The HMAC after sixteen bytes more.
 fn fed16(m: Sha1Hmac, s: [u8; 16]) -> Sha1Hmac
-    ensures { λ r. ⌜ ((k l : List ℕ) (n : ℕ) → Given k l n m → n ≤ 1000 → Given k (l ++ s) (n + 16) r) ⌝ }
+    ensures { λ r. ⌜ ((k l : List ℕ) (n : ℕ) → Given sha1Hash k l n (macStateOf m) → n ≤ 1000 → Given sha1Hash k (l ++ s) (n + 16) (macStateOf r)) ⌝ }
 {
     let f = m.feed(&s);
     f.mac
@@ -48,7 +51,7 @@ fn fed16(m: Sha1Hmac, s: [u8; 16]) -> Sha1Hmac
 
 // The HMAC after a session id.
 fn fed_id(m: Sha1Hmac, id: u32) -> Sha1Hmac
-    ensures { λ r. ⌜ ((k l : List ℕ) (n : ℕ) → Given k l n m → n ≤ 1000 → Given k (l ++ le 4 id) (n + 4) r) ⌝ }
+    ensures { λ r. ⌜ ((k l : List ℕ) (n : ℕ) → Given sha1Hash k l n (macStateOf m) → n ≤ 1000 → Given sha1Hash k (l ++ le 4 id) (n + 4) (macStateOf r)) ⌝ }
 {
     let f = m.feed(&le4(id));
     f.mac
@@ -66,7 +69,7 @@ fn counted(len: usize) -> u8
 
 // The HMAC after role byte, name length and name.
 fn fed_role(m: Sha1Hmac, role: u8, name: [u8; 16], len: usize) -> Sha1Hmac
-    ensures { λ r. ⌜ ((k l : List ℕ) (n : ℕ) → Given k l n m → n ≤ 1000 → Given k (l ++ roleName role (take len name)) (n + (2 + min len 16)) r) ⌝ }
+    ensures { λ r. ⌜ ((k l : List ℕ) (n : ℕ) → Given sha1Hash k l n (macStateOf m) → n ≤ 1000 → Given sha1Hash k (l ++ roleName role (take len name)) (n + (2 + min len 16)) (macStateOf r)) ⌝ }
 {
     let n = counted(len);
     let head = [role, n];

@@ -6,8 +6,8 @@ use mathlib.Core.List.{List, [], _++_}
 use mathlib.Core.Path.{_≡_, refl, sym, _∙_, ap, ap₂}
 use lib.ListN.{length, getD, take, drop, length-take}
 use Rattle.refusal.specs.Order.{refuse, accept}
-use Rattle.sha1.specs.Mac.{hmacSha1}
-use Rattle.sha1.proofs.Sizes.{mac-length}
+use Rattle.sha1.specs.Hash.{hmacSha1}
+use Rattle.sha1.proofs.Laws.{mac-length}
 use Rattle.keys.specs.Codes.{code2, code3}
 use Rattle.keys.specs.Keys.{keysOf, aesKeyOf}
 use Rattle.messages.specs.Name.{stored}

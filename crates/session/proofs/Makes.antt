@@ -13,11 +13,12 @@ use Rattle.refusal.specs.declared.Refusal.the-variants.{Declined, WrongStep}
 use Rattle.refusal.proofs.Order.{refuse≢accept, pass, need-no}
 use Rattle.octets.specs.Equal.{same}
 use Rattle.octets.specs.Place.{begun}
-use Rattle.sha1.specs.Answers.{limit, HashedPromise}
-use Rattle.sha1.specs.Mac.{hmacSha1, hmacBlocks}
+use Rattle.running.specs.Promise.{limit}
+use Rattle.sha1.specs.Answers.{HashedPromise}
+use Rattle.sha1.specs.Hash.{hmacSha1, hmacBlocks}
 use Rattle.sha1.specs.declared.Hashed.{Hashed}
-use Rattle.sha1.proofs.Coded.{hashed-digest}
-use Rattle.sha1.proofs.Sizes.{mac-length}
+use Rattle.running.proofs.Promised.{yes}
+use Rattle.sha1.proofs.Laws.{mac-length}
 use Rattle.keys.specs.Chosen.{chosen, absent, keyOf}
 use Rattle.keys.specs.declared.keys.Keys.{Keys}
 use Rattle.frame.specs.declared.Confidentiality as C
@@ -59,7 +60,7 @@ pub digest-of : (k m : List ℕ) (r : Hashed) → length k ≤ 1048576
     → HashedPromise (leb (length k) limit) (hmacSha1 k m) (hmacBlocks k m) r → r .digest ≡ hmacSha1 k m
 digest-of k m r h p =
     let q : HashedPromise true (hmacSha1 k m) (hmacBlocks k m) r = rw (le-leb (length k) limit h) at p in
-    hashed-digest _ _ r q
+    yes q .1
 
 pick-short : (t : Bool) (kg password : List ℕ) → length kg ≤ 20 → length password ≤ 255 → length (chosen t kg password) ≤ 1048576
 pick-short true kg password h g = omega arith

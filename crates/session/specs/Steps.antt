@@ -7,7 +7,7 @@ use lib.Dec.{eqb, leb}
 use lib.ListN.{length, drop}
 use Rattle.refusal.specs.Order.{Res, accept, need, andThen}
 use Rattle.octets.specs.Equal.{same}
-use Rattle.sha1.specs.Mac.{hmacSha1}
+use Rattle.sha1.specs.Hash.{hmacSha1}
 use Rattle.keys.specs.Chosen.{keyOf}
 use Rattle.keys.specs.Codes.{roleName, code2, sikOf, code3, value4}
 use Rattle.messages.specs.Auth.{isLevel}

@@ -9,7 +9,7 @@ use mathlib.Core.Path.{_≡_}
 use lib.ListN.{length, getD, drop}
 use Rattle.octets.specs.Number.{le, unle}
 use Rattle.octets.specs.Place.{part}
-use Rattle.sha1.specs.Mac.{hmacSha1}
+use Rattle.sha1.specs.Hash.{hmacSha1}
 use Rattle.keys.specs.Chosen.{keyOf}
 use Rattle.keys.specs.Codes.{roleName, code2, sikOf, code3, value4}
 use Rattle.keys.specs.Keys.{keysOf}

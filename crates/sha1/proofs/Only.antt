@@ -7,6 +7,11 @@ use Rattle.refusal.specs.Order.{refuse, accept}
 use Rattle.refusal.specs.Table.{numberOf, valueOf}
 use Rattle.refusal.proofs.Order.{refuse≢accept}
 use Rattle.refusal.proofs.Numbers.{told-one}
+use Rattle.sha1_block.specs.declared.Chain.{Chain}
+use Rattle.running.specs.Running.{State}
+use Rattle.running.specs.Mac.{MacState}
+use Rattle.running.proofs.Promised.{only}
+use Rattle.sha1.specs.View.{stateOf, macStateOf}
 use Rattle.sha1.specs.Answers.{told, FedPromise, MacPromise, HashedPromise}
 use Rattle.sha1.specs.declared.Outcome.{Outcome}
 use Rattle.sha1.specs.declared.Outcome.the-variants.{Done, Refused}
@@ -35,29 +40,36 @@ outcome-one (Refused r) (Refused q) e =
     let h : r ≡ q = told-one r q n v in
     λ i. Refused (h i)
 
-fed-one : (ok : Bool) (x y : Sha1) (a b : Fed) → FedPromise ok x y a → FedPromise ok x y b → a ≡ b
-fed-one ok x y a b p q =
-    let e : a .answer ≡ b .answer = outcome-one (a .answer) (b .answer) (p .answer ∙ sym (q .answer)) in
-    let f : a .hash ≡ b .hash = p .hash ∙ sym (q .hash) in
-    let g : a .blocks ≡ b .blocks = p .blocks ∙ sym (q .blocks) in
-    λ i. record { answer = e i; hash = f i; blocks = g i }
+state-one : (a b : Sha1) → stateOf a ≡ stateOf b → a ≡ b
+state-one a b e = λ i. record { h = e i .h; buf = e i .buf; len = e i .len; blocks = e i .blocks }
 
-mac-one : (ok : Bool) (x y : Sha1Hmac) (a b : MacFed) → MacPromise ok x y a → MacPromise ok x y b → a ≡ b
+mac-state-one : (a b : Sha1Hmac) → macStateOf a ≡ macStateOf b → a ≡ b
+mac-state-one a b e =
+    let f : a .inner ≡ b .inner = state-one (a .inner) (b .inner) (λ i. e i .inner) in
+    λ i. record { inner = f i; outer = e i .outer; blocks = e i .blocks }
+
+fed-one : (ok : Bool) (x y : State Chain) (a b : Fed) → FedPromise ok x y a → FedPromise ok x y b → a ≡ b
+fed-one ok x y a b p q =
+    let o = only p q in
+    let e : a .answer ≡ b .answer = outcome-one (a .answer) (b .answer) (o .0) in
+    let f : a .hash ≡ b .hash = state-one (a .hash) (b .hash) (o .1) in
+    λ i. record { answer = e i; hash = f i; blocks = o .2 i }
+
+mac-one : (ok : Bool) (x y : MacState Chain) (a b : MacFed) → MacPromise ok x y a → MacPromise ok x y b → a ≡ b
 mac-one ok x y a b p q =
-    let e : a .answer ≡ b .answer = outcome-one (a .answer) (b .answer) (p .answer ∙ sym (q .answer)) in
-    let f : a .mac ≡ b .mac = p .mac ∙ sym (q .mac) in
-    let g : a .blocks ≡ b .blocks = p .blocks ∙ sym (q .blocks) in
-    λ i. record { answer = e i; mac = f i; blocks = g i }
+    let o = only p q in
+    let e : a .answer ≡ b .answer = outcome-one (a .answer) (b .answer) (o .0) in
+    let f : a .mac ≡ b .mac = mac-state-one (a .mac) (b .mac) (o .1) in
+    λ i. record { answer = e i; mac = f i; blocks = o .2 i }
 
 pub hashed-one : (ok : Bool) (d : List ℕ) (n : ℕ) (a b : Hashed) → HashedPromise ok d n a → HashedPromise ok d n b → a ≡ b
 hashed-one ok d n a b p q =
-    let e : a .answer ≡ b .answer = outcome-one (a .answer) (b .answer) (p .answer ∙ sym (q .answer)) in
-    let f : a .digest ≡ b .digest = p .digest ∙ sym (q .digest) in
-    let g : a .blocks ≡ b .blocks = p .blocks ∙ sym (q .blocks) in
-    λ i. record { answer = e i; digest = f i; blocks = g i }
+    let o = only p q in
+    let e : a .answer ≡ b .answer = outcome-one (a .answer) (b .answer) (o .0) in
+    λ i. record { answer = e i; digest = o .1 i; blocks = o .2 i }
 
 pub new-only : (κs : _) (args : _) (a b : _) (s t : _) → new-reads.Post κs args a s → new-reads.Post κs args b t → a ≡ b
-new-only κs args a b s t p q = p ∙ sym q
+new-only κs args a b s t p q = state-one a b (p ∙ sym q)
 
 pub update-only : (κs : _) (args : _) (a b : _) (s t : _) → update-reads.Post κs args a s → update-reads.Post κs args b t → a ≡ b
 update-only κs args a b s t p q = fed-one _ _ _ a b p q

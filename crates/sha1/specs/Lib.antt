@@ -1,4 +1,3 @@
 pub mod Hash
-pub mod Running
-pub mod Mac
+pub mod View
 pub mod Answers

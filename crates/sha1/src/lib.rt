@@ -7,10 +7,13 @@ ghost use lib.ListN.{length, take};
 ghost use lib.Seq.{paste, sets};
 ghost use lib.Dec.{leb};
 ghost use Rattle.octets.specs.Number.{be};
-ghost use Rattle.sha1_block.specs.Block.{bytesOf};
-ghost use Rattle.sha1.specs.Hash.{sha1, blockCount};
-ghost use Rattle.sha1.specs.Running.{room, taken, digestOf, countOf, after};
-ghost use Rattle.sha1.specs.Answers.{limit, innerLimit, FedPromise, HashedPromise};
+ghost use Rattle.sha1_block.specs.Block.{sha1Hash};
+ghost use Rattle.running.specs.Hash.{blockCount};
+ghost use Rattle.running.specs.Running.{room, taken, digestOf, countOf, after};
+ghost use Rattle.running.specs.Promise.{limit, innerLimit};
+ghost use Rattle.sha1.specs.Hash.{sha1};
+ghost use Rattle.sha1.specs.View.{stateOf};
+ghost use Rattle.sha1.specs.Answers.{FedPromise, HashedPromise};
 use refusal::Refusal;
 use sha1_block::Chain;
 use sha1_block::blocks;
@@ -104,7 +107,7 @@ fn within(len: u32, n: usize, most: usize) -> bool
 }
 
 fn done(h: Chain, blocks: u32) -> Hashed
-    ensures { λ r. ⌜ HashedPromise true (bytesOf h) blocks r ⌝ }
+    ensures { λ r. ⌜ HashedPromise true (sha1Hash .code h) blocks r ⌝ }
 {
     Hashed {
         answer: Outcome::Done,
@@ -126,7 +129,7 @@ fn refused() -> Hashed
 impl Sha1 {
     // The hash before any byte.
     pub fn new() -> Sha1
-        ensures { λ r. ⌜ r ≡ after [] ⌝ }
+        ensures { λ r. ⌜ stateOf r ≡ after sha1Hash [] ⌝ }
     {
         Sha1 {
             h: start(),
@@ -138,7 +141,7 @@ impl Sha1 {
 
     // The hash after s, or refusal 37 and the hash as it was.
     pub fn update(self, s: &[u8]) -> Fed
-        ensures { λ r. ⌜ FedPromise (leb (self .len + length (now (s .entry))) limit) (taken self (now (s .entry))) self r ⌝ }
+        ensures { λ r. ⌜ FedPromise (leb (self .len + length (now (s .entry))) limit) (taken sha1Hash (stateOf self) (now (s .entry))) (stateOf self) r ⌝ }
     {
         if !within(self.len, s.len(), LIMIT) {
             return Fed {
@@ -157,7 +160,7 @@ impl Sha1 {
 
     // The hash's twenty bytes; 37 for a state that says it was given too much.
     pub fn finalize(self) -> Hashed
-        ensures { λ r. ⌜ HashedPromise (leb (self .len) limit) (digestOf self) (countOf self) r ⌝ }
+        ensures { λ r. ⌜ HashedPromise (leb (self .len) limit) (digestOf sha1Hash (stateOf self)) (countOf (stateOf self)) r ⌝ }
     {
         if LIMIT < self.len as usize {
             return refused();
@@ -168,7 +171,7 @@ impl Sha1 {
     // s behind bytes that wait, where no block becomes full.
     fn kept(self, s: &[u8]) -> Sha1
         requires { ⌜ self .len % 64 + length (now s) < 64 ⌝ }
-        ensures { λ r. ⌜ r ≡ taken self (now (s .entry)) ⌝ }
+        ensures { λ r. ⌜ stateOf r ≡ taken sha1Hash (stateOf self) (now (s .entry)) ⌝ }
     {
         let buf = self.buf;
         let b = filled(buf, (self.len % 64) as usize, s);
@@ -184,7 +187,7 @@ impl Sha1 {
     // s behind bytes that wait, where the block becomes full.
     fn topped(self, s: &[u8]) -> Sha1
         requires { ⌜ self .len % 64 + length (now s) ≡ 64 ⌝ }
-        ensures { λ r. ⌜ r ≡ taken self (now (s .entry)) ⌝ }
+        ensures { λ r. ⌜ stateOf r ≡ taken sha1Hash (stateOf self) (now (s .entry)) ⌝ }
     {
         let buf = self.buf;
         let b = filled(buf, (self.len % 64) as usize, s);
@@ -199,7 +202,7 @@ impl Sha1 {
     // s where no byte waits: its blocks are compressed where they lie, and only the rest is copied.
     fn swept(self, s: &[u8]) -> Sha1
         requires { ⌜ (self .len % 64 ≡ 0) × (length (now s) ≤ innerLimit) ⌝ }
-        ensures { λ r. ⌜ r ≡ taken self (now (s .entry)) ⌝ }
+        ensures { λ r. ⌜ stateOf r ≡ taken sha1Hash (stateOf self) (now (s .entry)) ⌝ }
     {
         let n = s.len() / 64;
         let b = filled([0u8; 64], 0, &s[n * 64..]);
@@ -214,7 +217,7 @@ impl Sha1 {
     // The hash after s.
     fn with(self, s: &[u8]) -> Sha1
         requires { ⌜ length (now s) ≤ innerLimit ⌝ }
-        ensures { λ r. ⌜ r ≡ taken self (now (s .entry)) ⌝ }
+        ensures { λ r. ⌜ stateOf r ≡ taken sha1Hash (stateOf self) (now (s .entry)) ⌝ }
     {
         let fill = (self.len % 64) as usize;
         if fill == 0 {
@@ -229,7 +232,7 @@ impl Sha1 {
 
     // The hash's end: padding and length go in.
     fn closed(self) -> Hashed
-        ensures { λ r. ⌜ HashedPromise true (digestOf self) (countOf self) r ⌝ }
+        ensures { λ r. ⌜ HashedPromise true (digestOf sha1Hash (stateOf self)) (countOf (stateOf self)) r ⌝ }
     {
         let fill = (self.len % 64) as usize;
         let buf = self.buf;

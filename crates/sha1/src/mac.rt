@@ -7,9 +7,13 @@ ghost use lib.ListN.{length};
 ghost use lib.Dec.{leb};
 ghost use Rattle.hmac.specs.Hmac.{xored, keyBlock};
 ghost use Rattle.hmac.specs.Count.{keyCount};
-ghost use Rattle.sha1.specs.Hash.{sha1, blockCount, pad};
-ghost use Rattle.sha1.specs.Mac.{macAfter, macTaken, macDigest, macCount, spent};
-ghost use Rattle.sha1.specs.Answers.{limit, innerLimit, MacPromise, HashedPromise, HmacPromise};
+ghost use Rattle.sha1_block.specs.Block.{sha1Hash};
+ghost use Rattle.running.specs.Hash.{pad, blockCount};
+ghost use Rattle.running.specs.Mac.{macAfter, macTaken, macDigest, macCount, spent};
+ghost use Rattle.running.specs.Promise.{limit, innerLimit};
+ghost use Rattle.sha1.specs.Hash.{sha1};
+ghost use Rattle.sha1.specs.View.{macStateOf};
+ghost use Rattle.sha1.specs.Answers.{MacPromise, HashedPromise, HmacPromise};
 use crate::Hashed;
 use crate::LIMIT;
 use crate::Outcome;
@@ -78,7 +82,7 @@ fn masked(block: [u8; 64], x: u8) -> [u8; 64]
 // The state that a key leaves.
 fn begun(key: &[u8]) -> Sha1Hmac
     requires { ⌜ length (now key) ≤ limit ⌝ }
-    ensures { λ r. ⌜ r ≡ macAfter (now (key .entry)) [] ⌝ }
+    ensures { λ r. ⌜ macStateOf r ≡ macAfter sha1Hash (now (key .entry)) [] ⌝ }
 {
     let k = key_block(key);
     let block = k.block;
@@ -99,7 +103,7 @@ fn begun(key: &[u8]) -> Sha1Hmac
 
 // The outer hash's last block: a code and the padding of 84 bytes.
 fn last_block(digest: [u8; 20]) -> [u8; 64]
-    ensures { λ r. ⌜ r ≡ digest ++ pad 84 ⌝ }
+    ensures { λ r. ⌜ r ≡ digest ++ pad (64 + sha1Hash .size) ⌝ }
 {
     let mut tail = [0u8; 64];
     tail[20] = 0x80;
@@ -110,7 +114,7 @@ fn last_block(digest: [u8; 20]) -> [u8; 64]
 
 // A state that takes no piece and gives no code; it stands beside a refused key.
 fn nothing() -> Sha1Hmac
-    ensures { λ r. ⌜ r ≡ spent ⌝ }
+    ensures { λ r. ⌜ macStateOf r ≡ spent sha1Hash ⌝ }
 {
     let inner = Sha1 {
         h: start(),
@@ -127,7 +131,7 @@ fn nothing() -> Sha1Hmac
 
 // The answer beside a state that was taken on, with the blocks compressed so far.
 fn running(mac: Sha1Hmac) -> MacFed
-    ensures { λ r. ⌜ MacPromise true mac mac r ⌝ }
+    ensures { λ r. ⌜ MacPromise true (macStateOf mac) (macStateOf mac) r ⌝ }
 {
     let inner = mac.inner;
     MacFed {
@@ -139,7 +143,7 @@ fn running(mac: Sha1Hmac) -> MacFed
 
 // Refusal 37 beside the state that stays.
 fn stopped(mac: Sha1Hmac) -> MacFed
-    ensures { λ r. ⌜ MacPromise false mac mac r ⌝ }
+    ensures { λ r. ⌜ MacPromise false (macStateOf mac) (macStateOf mac) r ⌝ }
 {
     MacFed {
         answer: Outcome::Refused(Refusal::TooLongToHash),
@@ -151,7 +155,7 @@ fn stopped(mac: Sha1Hmac) -> MacFed
 impl Sha1Hmac {
     // HMAC under a key, before any byte of the message.
     pub fn new(key: &[u8]) -> MacFed
-        ensures { λ r. ⌜ MacPromise (leb (length (now (key .entry))) limit) (macAfter (now (key .entry)) []) spent r ⌝ }
+        ensures { λ r. ⌜ MacPromise (leb (length (now (key .entry))) limit) (macAfter sha1Hash (now (key .entry)) []) (spent sha1Hash) r ⌝ }
     {
         if LIMIT < key.len() {
             return stopped(nothing());
@@ -161,7 +165,7 @@ impl Sha1Hmac {
 
     // HMAC after the piece s, or refusal 37 and the state as it was.
     pub fn feed(self, s: &[u8]) -> MacFed
-        ensures { λ r. ⌜ MacPromise (leb (self .inner .len + length (now (s .entry))) innerLimit) (macTaken self (now (s .entry))) self r ⌝ }
+        ensures { λ r. ⌜ MacPromise (leb (self .inner .len + length (now (s .entry))) innerLimit) (macTaken sha1Hash (macStateOf self) (now (s .entry))) (macStateOf self) r ⌝ }
     {
         let inner = self.inner;
         if !crate::within(inner.len, s.len(), INNER_LIMIT) {
@@ -172,7 +176,7 @@ impl Sha1Hmac {
 
     // The code; 37 for a state that says it was given too much.
     pub fn finalize(self) -> Hashed
-        ensures { λ r. ⌜ HashedPromise (leb (self .inner .len) innerLimit) (macDigest self) (macCount self) r ⌝ }
+        ensures { λ r. ⌜ HashedPromise (leb (self .inner .len) innerLimit) (macDigest sha1Hash (macStateOf self)) (macCount (macStateOf self)) r ⌝ }
     {
         let inner = self.inner;
         if INNER_LIMIT < inner.len as usize {
@@ -183,7 +187,7 @@ impl Sha1Hmac {
 
     fn with(self, s: &[u8]) -> Sha1Hmac
         requires { ⌜ length (now s) ≤ innerLimit ⌝ }
-        ensures { λ r. ⌜ r ≡ macTaken self (now (s .entry)) ⌝ }
+        ensures { λ r. ⌜ macStateOf r ≡ macTaken sha1Hash (macStateOf self) (now (s .entry)) ⌝ }
     {
         let inner = self.inner;
         let outer = self.outer;
@@ -195,7 +199,7 @@ impl Sha1Hmac {
     }
 
     fn closed(self) -> Hashed
-        ensures { λ r. ⌜ HashedPromise true (macDigest self) (macCount self) r ⌝ }
+        ensures { λ r. ⌜ HashedPromise true (macDigest sha1Hash (macStateOf self)) (macCount (macStateOf self)) r ⌝ }
     {
         let inner = self.inner;
         let outer = self.outer;

@@ -6,8 +6,13 @@ use mathlib.Core.Path.{_≡_, refl, sym, _∙_, ap, ap₂}
 use mathlib.Core.List.{List, _++_}
 use lib.ListN.{length, getD, take, drop, set, length-drop}
 use lib.Seq.{take-suc-set, getD-take, drop-drop, take-append-le, drop-append-le}
+use Rattle.octets.specs.Bytes.{Bytes}
+use Rattle.octets.specs.Number.{be}
+use Rattle.octets.proofs.Bytes.{bytes-append}
+use Rattle.octets.proofs.Number.{bytes-be}
+use Rattle.running.specs.Hash.{Sized}
 use Rattle.sha1_block.specs.Word.{word}
-use Rattle.sha1_block.specs.Block.{words, next, more, schedule, round, rounds, added, compress, hashN}
+use Rattle.sha1_block.specs.Block.{words, next, more, schedule, round, rounds, added, compress, bytesOf, sha1Hash}
 use Rattle.sha1_block.specs.Turns.{turns}
 use Rattle.sha1_block.specs.declared.Chain.{Chain}
 
@@ -51,34 +56,15 @@ whole h v₁ v₂ v₃ v₄ r w m s p₁ p₂ p₃ p₄ e =
     let f : v₄ ≡ rounds 80 w h = p₄ ∙ rw (p₃, p₂, p₁) (four-runs w h) in
     e ∙ rw (f, s)
 
-pub hashN-add : (j k : ℕ) (h : Chain) (m : List ℕ) → hashN (j + k) h m ≡ hashN k (hashN j h m) (drop (j * 64) m)
-unfolding hashN
-hashN-add zero k h m = let e : 0 + k ≡ k = omega arith in rw e refl
-hashN-add (suc j) k h m =
-    let e : 64 + j * 64 ≡ suc j * 64 = omega arith in
-    let f : suc j + k ≡ suc (j + k) = omega arith in
-    rw f (hashN-add j k (compress h (take 64 m)) (drop 64 m)
-    ∙ ap (hashN k (hashN j (compress h (take 64 m)) (drop 64 m))) (drop-drop (j * 64) 64 m ∙ ap (λ (i : ℕ). drop i m) e))
+bytes-twenty : (h : Chain) → Bytes (bytesOf h)
+bytes-twenty h =
+    bytes-append (be 4 (h .a) ++ be 4 (h .b) ++ be 4 (h .c) ++ be 4 (h .d)) (be 4 (h .e))
+    (bytes-append (be 4 (h .a) ++ be 4 (h .b) ++ be 4 (h .c)) (be 4 (h .d))
+    (bytes-append (be 4 (h .a) ++ be 4 (h .b)) (be 4 (h .c))
+    (bytes-append (be 4 (h .a)) (be 4 (h .b)) (bytes-be 4 (h .a)) (bytes-be 4 (h .b))) (bytes-be 4 (h .c))) (bytes-be 4 (h .d)))
+    (bytes-be 4 (h .e))
 
--- what stands behind the blocks that are hashed does not count
-pub hashN-front : (j : ℕ) (h : Chain) (m s : List ℕ) → j * 64 ≤ length m → hashN j h (m ++ s) ≡ hashN j h m
-unfolding hashN
-hashN-front zero h m s l = refl
-hashN-front (suc j) h m s l =
-    let l₆₄ : 64 ≤ length m = omega arith in
-    let lj : j * 64 ≤ length (drop 64 m) = simp length-drop (omega arith) in
-    ap₂ (λ (x y : List ℕ). hashN j (compress h x) y) (take-append-le 64 m s l₆₄) (drop-append-le 64 m s l₆₄)
-    ∙ hashN-front j (compress h (take 64 m)) (drop 64 m) s lj
-
--- one block more, where it lies
-pub hashN-next : (at : ℕ) (h v u : Chain) (s : List ℕ) → at % 64 ≡ 0 → v ≡ hashN (at / 64) h s
-    → u ≡ compress v (take (at + 64 - at) (drop at s)) → u ≡ hashN ((at + 64) / 64) h s
-unfolding hashN
-hashN-next at h v u s z e p =
-    let e₁ : at + 64 - at ≡ 64 = omega arith in
-    let e₂ : at / 64 * 64 ≡ at = omega arith in
-    let e₃ : (at + 64) / 64 ≡ at / 64 + 1 = omega arith in
-    p ∙ ap₂ (λ (n : ℕ) (x : Chain). compress x (take n (drop at s))) e₁ e
-    ∙ ap (λ (n : ℕ). compress (hashN (at / 64) h s) (take 64 (drop n s))) (sym e₂)
-    ∙ sym (hashN-add (at / 64) 1 h s)
-    ∙ ap (λ (n : ℕ). hashN n h s) (sym e₃)
+-- what the laws of a running hash ask of SHA-1
+pub sha1-sized : Sized sha1Hash
+unfolding sha1Hash
+sha1-sized = record { long = λ c. refl; short = omega arith; bytes = bytes-twenty }

@@ -2,10 +2,11 @@
 use Prim.Native.Nat.{ℕ, zero, suc, _+_, _-_, _*_}
 use mathlib.Core.Bool.{Bool, true, false}
 use mathlib.Core.List.{List, [], _∷_, _++_}
-use lib.ListN.{getD, take, drop}
+use lib.ListN.{getD}
 use lib.Bits.{bitXor}
 use lib.Dec.{ltb}
 use Rattle.octets.specs.Number.{be}
+use Rattle.running.specs.Hash.{Hash}
 use Rattle.sha1_block.specs.Word.{plus, rotl, word, ch, parity, maj}
 use Rattle.sha1_block.specs.declared.Chain.{Chain}
 
@@ -73,11 +74,10 @@ added h v =
 unfoldable pub compress : Chain → List ℕ → Chain
 compress h m = added h (rounds 80 (schedule m) h)
 
--- 6.1.2: the first k blocks of 64 bytes of m, one after another
-unfoldable pub hashN : ℕ → Chain → List ℕ → Chain
-hashN zero h m = h
-hashN (suc k) h m = hashN k (compress h (take 64 m)) (drop 64 m)
-
 -- 6.1.2, end: the twenty bytes of a chaining value
 abbrev pub bytesOf : Chain → List ℕ
 bytesOf h = be 4 (h .a) ++ be 4 (h .b) ++ be 4 (h .c) ++ be 4 (h .d) ++ be 4 (h .e)
+
+-- SHA-1 as a hash over blocks
+unfoldable pub sha1Hash : Hash Chain
+sha1Hash = record { compress = compress; first = first; code = bytesOf; size = 20 }

@@ -2,8 +2,9 @@
 ghost use mathlib.Core.Path.{_≡_};
 ghost use Prim.Native.Nat.{_+_, _-_, _*_, _/_, _≤_, _<_};
 ghost use lib.ListN.{length, take};
+ghost use Rattle.running.specs.Hash.{runs};
 ghost use Rattle.sha1_block.specs.Word.{rotl, word};
-ghost use Rattle.sha1_block.specs.Block.{fT, kT, first, words, next, schedule, round, added, compress, hashN, bytesOf};
+ghost use Rattle.sha1_block.specs.Block.{fT, kT, words, next, schedule, round, added, compress, sha1Hash};
 ghost use Rattle.sha1_block.specs.Turns.{turns};
 use std::num::wrapping_add_u32;
 
@@ -173,7 +174,7 @@ fn compressed(h: Chain, m: &[u8]) -> Chain
 
 // The chaining value before the first block.
 pub fn start() -> Chain
-    ensures { λ r. ⌜ r ≡ first ⌝ }
+    ensures { λ r. ⌜ r ≡ sha1Hash .first ⌝ }
 {
     Chain {
         a: 0x67452301,
@@ -186,7 +187,7 @@ pub fn start() -> Chain
 
 // All whole blocks of s, compressed where they lie; what is left over at the end is not read.
 pub fn blocks(h: Chain, s: &[u8]) -> Chain
-    ensures { λ r. ⌜ r ≡ hashN (length (now (s .entry)) / 64) h (now (s .entry)) ⌝ }
+    ensures { λ r. ⌜ r ≡ runs (sha1Hash .compress) (length (now (s .entry)) / 64) h (now (s .entry)) ⌝ }
 {
     let mut v = h;
     let mut at: usize = 0;
@@ -199,7 +200,7 @@ pub fn blocks(h: Chain, s: &[u8]) -> Chain
 
 // The twenty bytes of a chaining value.
 pub fn bytes(h: Chain) -> [u8; 20]
-    ensures { λ r. ⌜ r ≡ bytesOf h ⌝ }
+    ensures { λ r. ⌜ r ≡ sha1Hash .code h ⌝ }
 {
     [
         (h.a / 256 / 256 / 256 % 256) as u8,

@@ -5,7 +5,7 @@ use mathlib.Core.Path.{_≡_, refl}
 use native.Mathlib.Omega.{arith}
 use lib.ListN.{length}
 use lib.Seq.{paste, paste-zero}
-use Rattle.sha1.proofs.Rooms.{copy-more}
+use Rattle.running.proofs.Rooms.{copy-more}
 use Rattle.sha1.proofs.copied.Statement.{statement}
 use Rattle.sha1.proofs.copied.Tie as tie
 

@@ -3,7 +3,7 @@ use mathlib.Core.Path.{_≡_, sym}
 use native.Mathlib.Omega.{arith}
 use lib.ListN.{length}
 use lib.Seq.{length-take-le}
-use Rattle.sha1.proofs.Rooms.{filled-law}
+use Rattle.running.proofs.Rooms.{filled-law}
 use borrow.Author.Needs.{needs}
 use Rattle.sha1.proofs.filled.Statement.{statement}
 use Rattle.sha1.proofs.filled.Tie as tie

@@ -3,7 +3,7 @@ use mathlib.Core.Path.{sym}
 use native.Mathlib.Omega.{arith}
 use Prim.Native.Nat.{_<_, _+_}
 use borrow.Author.Tests.{lt-leb}
-use Rattle.sha1.proofs.Promised.{within-law}
+use Rattle.running.proofs.Promised.{within-law}
 use Rattle.sha1.proofs.within.Statement.{statement}
 use Rattle.sha1.proofs.within.Tie as tie
 

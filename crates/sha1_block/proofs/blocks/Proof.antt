@@ -4,25 +4,27 @@ use Prim.Native.Nat.{_≤_, _-_, _/_, _%_}
 use mathlib.Core.Path.{_≡_}
 use native.Mathlib.Omega.{arith}
 use lib.ListN.{length}
-use Rattle.sha1_block.specs.Block.{hashN}
-use Rattle.sha1_block.proofs.Laws.{hashN-next}
+use Rattle.running.specs.Hash.{runs}
+use Rattle.running.proofs.Blocks.{runs-next}
+use Rattle.sha1_block.specs.Block.{sha1Hash}
 use Rattle.sha1_block.proofs.blocks.Statement.{statement}
 use Rattle.sha1_block.proofs.blocks.Tie as tie
 
 abbrev Inv-loop : tie.InvT-loop
-Inv-loop s v₀ at₀ v at = (at ≤ length s) × (at % 64 ≡ 0) × (v ≡ hashN (at / 64) v₀ s)
+Inv-loop s v₀ at₀ v at = (at ≤ length s) × (at % 64 ≡ 0) × (v ≡ runs (sha1Hash .compress) (at / 64) v₀ s)
 
 abbrev μ-loop : tie.MeasureT-loop
 μ-loop s v₀ at₀ v at = length s - at
 
 loop-holds : tie.Need-loop-holds Inv-loop μ-loop
-unfolding hashN
+unfolding runs
 loop-holds c = search needs
 
 loop-again : tie.Need-loop-again Inv-loop μ-loop
+unfolding sha1Hash
 loop-again c =
     let l = c .before .before .before .loop in
-    (search needs, search needs, hashN-next (l .at) _ (l .v) _ _ (l .inv .1) (l .inv .2) (c .compressed .ensures))
+    (search needs, search needs, runs-next (sha1Hash .compress) (l .at) _ (l .v) _ _ (l .inv .1) (l .inv .2) (c .compressed .ensures))
 
 returns : tie.Need-returns Inv-loop μ-loop
 returns c =

@@ -5,7 +5,7 @@ use mathlib.Core.Path.{_≡_, ap, sym, _∙_}
 use lib.ListN.{length, take}
 use lib.Seq.{length-take-le}
 use Rattle.frame.specs.Types.{codeLength}
-use Rattle.sha1.specs.Mac.{hmacSha1}
+use Rattle.sha1.specs.Hash.{hmacSha1}
 use Rattle.frame.specs.Crypto.{macBlocks}
 use Rattle.frame.specs.Session.{suiteOf}
 use Rattle.frame.proofs.Coded.{computed-bare, computed-short, computed-done, bit-off, bit-on}

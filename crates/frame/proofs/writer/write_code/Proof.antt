@@ -3,7 +3,7 @@ use native.Mathlib.Omega.{arith}
 use mathlib.Core.Path.{_≡_, sym}
 use lib.ListN.{length}
 use lib.Seq.{length-take-le}
-use Rattle.sha1.specs.Mac.{hmacSha1}
+use Rattle.sha1.specs.Hash.{hmacSha1}
 use Rattle.frame.proofs.Head.{code-short}
 use Rattle.frame.proofs.Writes.{code-written}
 use borrow.Author.Needs.{needs}

@@ -1,13 +1,13 @@
 -- `begun` keeps its promise: what `Sha1Hmac::new` promises is the state before any byte.
-use Rattle.keys.specs.Running.{running}
-use Rattle.keys.proofs.Running.{given-none}
+use Rattle.sha1_block.specs.Block.{sha1Hash}
+use Rattle.sha1_block.proofs.Laws.{sha1-sized}
+use Rattle.running.proofs.Givens.{given-none}
 use borrow.Author.Needs.{needs}
 use Rattle.keys.proofs.state.begun.Statement.{statement}
 use Rattle.keys.proofs.state.begun.Tie as tie
 
 returns : tie.Need-returns
-unfolding running
-returns c = given-none (c .before .before .before .args .key .now) _ (c .before .new .ensures .mac)
+returns c = given-none sha1Hash sha1-sized (c .before .before .before .args .key .now) (c .before .new .ensures)
 
 pub begun-spec : {M : Type 1} → statement M
 begun-spec = tie.close (tie.spec (λ c κs. search needs) returns)

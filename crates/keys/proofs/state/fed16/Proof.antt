@@ -2,7 +2,9 @@
 use lib.ListN.{length}
 use mathlib.Core.Path.{_≡_}
 use native.Mathlib.Omega.{arith}
-use Rattle.keys.proofs.Running.{given-more}
+use Rattle.sha1_block.specs.Block.{sha1Hash}
+use Rattle.sha1_block.proofs.Laws.{sha1-sized}
+use Rattle.running.proofs.Givens.{given-more}
 use borrow.Author.Needs.{needs}
 use Rattle.keys.proofs.state.fed16.Statement.{statement}
 use Rattle.keys.proofs.state.fed16.Tie as tie
@@ -11,7 +13,7 @@ returns : tie.Need-returns
 returns c =
     let a = c .before .before .before .args in
     let e : length (a .t2) ≡ 16 = search needs in
-    λ k l n g h. given-more k l (a .t2) n 16 (a .m) _ g (c .before .feed .ensures) (omega arith) e (omega arith)
+    λ k l n g h. given-more sha1Hash sha1-sized k l (a .t2) n 16 g (c .before .feed .ensures) (omega arith) e (omega arith)
 
 pub fed16-spec : {M : Type 1} → statement M
 fed16-spec = tie.close (tie.spec (λ c. search needs) (λ c κs. search needs) returns)

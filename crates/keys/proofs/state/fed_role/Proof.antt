@@ -5,7 +5,9 @@ use mathlib.Core.Path.{_≡_, refl, sym}
 use mathlib.Core.List.{[], _∷_}
 use Prim.Native.Nat.{_+_, _≤_}
 use native.Mathlib.Omega.{arith}
-use Rattle.keys.proofs.Running.{given-more}
+use Rattle.sha1_block.specs.Block.{sha1Hash}
+use Rattle.sha1_block.proofs.Laws.{sha1-sized}
+use Rattle.running.proofs.Givens.{given-more}
 use Rattle.keys.proofs.Named.{given-role}
 use borrow.Author.Needs.{needs}
 use Rattle.keys.proofs.state.fed_role.Statement.{statement}
@@ -25,9 +27,9 @@ returns c =
     let e : length (a .t3) ≡ 16 = search needs in
     let h : m ≤ length (a .t3) = omega arith in
     λ k l n g b.
-    given-role k l (a .t3) (a .role) (a .len) m n _ e (c .before .before .before .before .before .counted .ensures)
-    (given-more k _ (take m (a .t3)) (n + 2) m _ _
-    (given-more k l (a .role ∷ m ∷ []) n 2 (a .m) _ g (c .before .before .before .feed .ensures) (omega arith) refl (omega arith))
+    given-role sha1Hash k l (a .t3) (a .role) (a .len) m n _ e (c .before .before .before .before .before .counted .ensures)
+    (given-more sha1Hash sha1-sized k _ (take m (a .t3)) (n + 2) m
+    (given-more sha1Hash sha1-sized k l (a .role ∷ m ∷ []) n 2 g (c .before .before .before .feed .ensures) (omega arith) refl (omega arith))
     (c .before .feed2 .ensures) (omega arith) (length-take-le m (a .t3) h) (omega arith))
 
 pub fed-role-spec : {M : Type 1} → statement M

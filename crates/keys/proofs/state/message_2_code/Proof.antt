@@ -1,7 +1,9 @@
 -- `message_2_code` keeps its promise: a line for each piece, then the end.
 use Rattle.keys.specs.Codes.{text2}
 use native.Mathlib.Omega.{arith}
-use Rattle.keys.proofs.Running.{given-code}
+use Rattle.sha1_block.specs.Block.{sha1Hash}
+use Rattle.sha1_block.proofs.Laws.{sha1-sized}
+use Rattle.running.proofs.Givens.{given-code}
 use borrow.Author.Needs.{needs}
 use Rattle.keys.proofs.state.message_2_code.Statement.{statement}
 use Rattle.keys.proofs.state.message_2_code.Tie as tie
@@ -16,7 +18,7 @@ returns c =
     let g₄ = c .before .before .before .fed162 .ensures k _ _ g₃ (omega arith) in
     let g₅ = c .before .before .fed163 .ensures k _ _ g₄ (omega arith) in
     let g₆ = c .before .fed-role .ensures k _ _ g₅ (omega arith) in
-    given-code k _ _ _ _ g₆ (c .finalize .ensures) (omega arith)
+    given-code sha1Hash sha1-sized (λ d. d) k _ _ g₆ (c .finalize .ensures) (omega arith)
 
 pub message-2-code-spec : {M : Type 1} → statement M
 message-2-code-spec =

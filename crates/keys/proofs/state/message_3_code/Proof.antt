@@ -1,7 +1,9 @@
 -- `message_3_code` keeps its promise: a line for each piece, then the end.
 use Rattle.keys.specs.Codes.{text3}
 use native.Mathlib.Omega.{arith}
-use Rattle.keys.proofs.Running.{given-code}
+use Rattle.sha1_block.specs.Block.{sha1Hash}
+use Rattle.sha1_block.proofs.Laws.{sha1-sized}
+use Rattle.running.proofs.Givens.{given-code}
 use borrow.Author.Needs.{needs}
 use Rattle.keys.proofs.state.message_3_code.Statement.{statement}
 use Rattle.keys.proofs.state.message_3_code.Tie as tie
@@ -13,7 +15,7 @@ returns c =
     let g₁ = c .before .before .before .fed16 .ensures k _ _ (c .before .before .before .before .begun .ensures) (omega arith) in
     let g₂ = c .before .before .fed-id .ensures k _ _ g₁ (omega arith) in
     let g₃ = c .before .fed-role .ensures k _ _ g₂ (omega arith) in
-    given-code k _ _ _ _ g₃ (c .finalize .ensures) (omega arith)
+    given-code sha1Hash sha1-sized (λ d. d) k _ _ g₃ (c .finalize .ensures) (omega arith)
 
 pub message-3-code-spec : {M : Type 1} → statement M
 message-3-code-spec =

@@ -3,7 +3,9 @@ use mathlib.Core.Path.{_≡_}
 use Rattle.keys.specs.Chosen.{keyOf}
 use Rattle.keys.specs.Codes.{textSik}
 use native.Mathlib.Omega.{arith}
-use Rattle.keys.proofs.Running.{given-code}
+use Rattle.sha1_block.specs.Block.{sha1Hash}
+use Rattle.sha1_block.proofs.Laws.{sha1-sized}
+use Rattle.running.proofs.Givens.{given-code}
 use borrow.Author.Needs.{needs}
 use Rattle.keys.proofs.state.sik.Statement.{statement}
 use Rattle.keys.proofs.state.sik.Tie as tie
@@ -17,7 +19,7 @@ returns c =
     let g₁ = c .before .before .before .fed16 .ensures k _ _ (c .before .before .before .before .begun .ensures) (omega arith) in
     let g₂ = c .before .before .fed162 .ensures k _ _ g₁ (omega arith) in
     let g₃ = c .before .fed-role .ensures k _ _ g₂ (omega arith) in
-    rw e at (given-code k _ _ _ _ g₃ (c .finalize .ensures) (omega arith))
+    rw e at (given-code sha1Hash sha1-sized (λ d. d) k _ _ g₃ (c .finalize .ensures) (omega arith))
 
 pub sik-spec : {M : Type 1} → statement M
 sik-spec =

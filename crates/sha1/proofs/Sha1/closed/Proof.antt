@@ -2,8 +2,10 @@
 use mathlib.Core.Path.{_≡_, refl, _∙_}
 use native.Mathlib.Omega.{arith}
 use lib.ListN.{length}
-use Rattle.sha1.proofs.Promised.{hashed-as}
-use Rattle.sha1.proofs.Closes.{closed-one, closed-two}
+use Rattle.sha1_block.specs.Block.{sha1Hash}
+use Rattle.sha1.specs.View.{stateOf}
+use Rattle.running.proofs.Promised.{as-yes}
+use Rattle.running.proofs.Closes.{closed-one, closed-two}
 use borrow.Author.Needs.{needs}
 use Rattle.sha1.proofs.Sha1.closed.Statement.{statement}
 use Rattle.sha1.proofs.Sha1.closed.Tie as tie
@@ -13,19 +15,19 @@ returns c =
     let a = c .before .before .before .before .before .before .before .before .before .before .args in
     let g = c .before .before .before .before .before .before .before .before .before .before .good .0 in
     let l : length (a .self .buf) ≡ 64 = search (needs, g) in
-    let p = closed-one (a .self) _ _ _ l (omega arith) (c .before .before .before .before .before .before .filled .ensures)
+    let p = closed-one sha1Hash (stateOf (a .self)) _ _ _ l (omega arith) (c .before .before .before .before .before .before .filled .ensures)
     (c .before .before .before .before .with-length .ensures) (c .before .before .blocks2 .ensures) in
-    hashed-as (c .done .ensures) refl _ _ (p .0) (c .before .wrapping-add-u32 .ensures ∙ p .1)
+    as-yes (c .done .ensures) refl _ _ _ (p .0) (c .before .wrapping-add-u32 .ensures ∙ p .1)
 
 returns-2 : tie.Need-returns-2
 returns-2 c =
     let a = c .before .before .before .before .before .before .before .before .before .before .before .before .args in
     let g = c .before .before .before .before .before .before .before .before .before .before .before .before .good .0 in
     let l : length (a .self .buf) ≡ 64 = search (needs, g) in
-    let p = closed-two (a .self) _ _ _ _ l (omega arith) (c .before .before .before .before .before .before .before .before .filled .ensures)
+    let p = closed-two sha1Hash (stateOf (a .self)) _ _ _ _ l (omega arith) (c .before .before .before .before .before .before .before .before .filled .ensures)
     (c .before .before .before .before .with-length2 .ensures) (c .before .before .before .before .before .blocks3 .ensures)
     (c .before .before .blocks4 .ensures) in
-    hashed-as (c .done2 .ensures) refl _ _ (p .0) (c .before .wrapping-add-u322 .ensures ∙ p .1)
+    as-yes (c .done2 .ensures) refl _ _ _ (p .0) (c .before .wrapping-add-u322 .ensures ∙ p .1)
 
 pub closed-spec : {M : Type 1} → statement M
 closed-spec =

@@ -2,7 +2,9 @@
 use mathlib.Core.Path.{_≡_}
 use native.Mathlib.Omega.{arith}
 use lib.ListN.{length}
-use Rattle.sha1.proofs.Takes.{taken-kept}
+use Rattle.sha1_block.specs.Block.{sha1Hash}
+use Rattle.sha1.specs.View.{stateOf}
+use Rattle.running.proofs.Takes.{taken-kept}
 use borrow.Author.Needs.{needs}
 use Rattle.sha1.proofs.Sha1.kept.Statement.{statement}
 use Rattle.sha1.proofs.Sha1.kept.Tie as tie
@@ -11,7 +13,7 @@ returns : tie.Need-returns
 returns c =
     let a = c .before .before .before .before .before .before .args in
     let l : length (a .self .buf) ≡ 64 = search needs in
-    taken-kept (a .self) (a .s .now) _ _ l (omega arith) (omega arith) (c .before .before .filled .ensures) (c .wrapping-add-u32 .ensures)
+    taken-kept sha1Hash (stateOf (a .self)) (a .s .now) _ _ l (omega arith) (omega arith) (c .before .before .filled .ensures) (c .wrapping-add-u32 .ensures)
 
 pub kept-spec : {M : Type 1} → statement M
 kept-spec =

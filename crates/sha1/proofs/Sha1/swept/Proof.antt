@@ -1,6 +1,8 @@
 -- `swept` keeps its promise: nothing waits, and the whole blocks are those of the piece.
 use native.Mathlib.Omega.{arith}
-use Rattle.sha1.proofs.Takes.{taken-swept}
+use Rattle.sha1_block.specs.Block.{sha1Hash}
+use Rattle.sha1.specs.View.{stateOf}
+use Rattle.running.proofs.Takes.{taken-swept}
 use borrow.Author.Needs.{needs}
 use Rattle.sha1.proofs.Sha1.swept.Statement.{statement}
 use Rattle.sha1.proofs.Sha1.swept.Tie as tie
@@ -8,7 +10,7 @@ use Rattle.sha1.proofs.Sha1.swept.Tie as tie
 returns : tie.Need-returns
 returns c =
     let a = c .before .before .before .before .before .before .args in
-    taken-swept (a .self) (a .s .now) _ _ _ _ (omega arith) (c .before .before .before .filled .ensures) (c .before .before .blocks2 .ensures)
+    taken-swept sha1Hash (stateOf (a .self)) (a .s .now) _ _ _ _ (omega arith) (c .before .before .before .filled .ensures) (c .before .before .blocks2 .ensures)
     (c .before .wrapping-add-u32 .ensures) (c .wrapping-add-u322 .ensures)
 
 pub swept-spec : {M : Type 1} → statement M

@@ -2,7 +2,9 @@
 use mathlib.Core.Path.{_≡_}
 use native.Mathlib.Omega.{arith}
 use lib.ListN.{length}
-use Rattle.sha1.proofs.Takes.{taken-topped}
+use Rattle.sha1_block.specs.Block.{sha1Hash}
+use Rattle.sha1.specs.View.{stateOf}
+use Rattle.running.proofs.Takes.{taken-topped}
 use borrow.Author.Needs.{needs}
 use Rattle.sha1.proofs.Sha1.topped.Statement.{statement}
 use Rattle.sha1.proofs.Sha1.topped.Tie as tie
@@ -11,7 +13,7 @@ returns : tie.Need-returns
 returns c =
     let a = c .before .before .before .before .before .before .before .before .args in
     let l : length (a .self .buf) ≡ 64 = search needs in
-    taken-topped (a .self) (a .s .now) _ _ _ _ l (omega arith) (c .before .before .before .before .filled .ensures)
+    taken-topped sha1Hash (stateOf (a .self)) (a .s .now) _ _ _ _ l (omega arith) (c .before .before .before .before .filled .ensures)
     (c .before .before .blocks2 .ensures) (c .before .wrapping-add-u32 .ensures) (c .wrapping-add-u322 .ensures)
 
 pub topped-spec : {M : Type 1} → statement M

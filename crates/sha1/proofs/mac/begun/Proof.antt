@@ -1,12 +1,14 @@
 -- `begun` keeps its promise: two blocks, one for each hash.
-use Rattle.sha1.proofs.Macs.{begun-law}
+use Rattle.sha1_block.specs.Block.{sha1Hash}
+use Rattle.sha1_block.proofs.Laws.{sha1-sized}
+use Rattle.running.proofs.Macs.{begun-law}
 use borrow.Author.Needs.{needs}
 use Rattle.sha1.proofs.mac.begun.Statement.{statement}
 use Rattle.sha1.proofs.mac.begun.Tie as tie
 
 returns : tie.Need-returns
 returns c =
-    begun-law (c .before .before .before .before .before .before .before .before .before .before .before .before .args .key .now) _ _ _ _ _ _ _ _ _
+    begun-law sha1Hash sha1-sized (c .before .before .before .before .before .before .before .before .before .before .before .before .args .key .now) _ _ _ _ _ _ _ _ _
     (c .before .before .before .before .before .before .before .before .before .before .key-block .ensures .0)
     (c .before .before .before .before .before .before .before .before .before .before .key-block .ensures .1)
     (c .before .before .before .before .before .before .before .before .masked .ensures)

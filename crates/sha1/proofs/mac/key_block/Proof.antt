@@ -1,21 +1,29 @@
 -- `key_block` keeps its promise: a short key stands as it is, a long one is hashed.
-use Rattle.sha1.proofs.Macs.{digest-length, key-block-short, key-block-long}
+use mathlib.Core.Path.{_≡_, _∙_, ap}
+use lib.ListN.{length}
+use Rattle.sha1_block.specs.Block.{sha1Hash}
+use Rattle.sha1_block.proofs.Laws.{sha1-sized}
+use Rattle.running.proofs.Promised.{yes}
+use Rattle.running.proofs.Macs.{digestOf-length, key-block-short, key-block-long}
 use native.Mathlib.Omega.{arith}
 use borrow.Author.Needs.{needs}
 use Rattle.sha1.proofs.mac.key_block.Statement.{statement}
 use Rattle.sha1.proofs.mac.key_block.Tie as tie
 
 returns : tie.Need-returns
-returns c = key-block-short (c .before .before .before .args .key .now) _ (omega arith) (c .filled .ensures)
+returns c = key-block-short sha1Hash sha1-sized (c .before .before .before .args .key .now) _ (omega arith) (c .filled .ensures)
 
 filled-requires-2 : tie.Need-filled-requires-2
-filled-requires-2 c κs = omega (arith, digest-length _ _ _ (c .before .before .closed .ensures))
+unfolding sha1Hash
+filled-requires-2 c κs =
+    let e : length (c .before .before .closed .result .digest) ≡ 20 = ap length (yes (c .before .before .closed .ensures) .1) ∙ digestOf-length sha1Hash sha1-sized _ in
+    omega arith
 
 returns-2 : tie.Need-returns-2
 returns-2 c =
-    key-block-long (c .before .before .before .before .before .before .before .before .args .key .now) _ _ _
-    (c .before .before .before .closed .result) (omega arith) (omega arith) (c .before .before .before .before .before .new .ensures)
-    (c .before .before .before .before .with .ensures) (c .before .before .before .closed .ensures) (c .filled2 .ensures)
+    let q = yes (c .before .before .before .closed .ensures) in
+    key-block-long sha1Hash sha1-sized (c .before .before .before .before .before .before .before .before .args .key .now) _ _ _ _ _ (omega arith) (omega arith) (c .before .before .before .before .before .new .ensures)
+    (c .before .before .before .before .with .ensures) (q .1) (q .2) (c .filled2 .ensures)
 
 pub key-block-spec : {M : Type 1} → statement M
 key-block-spec =

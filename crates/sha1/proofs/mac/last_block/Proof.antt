@@ -1,12 +1,14 @@
 -- `last_block` keeps its promise: the padding of 84 bytes is computed.
 use mathlib.Core.Path.{_≡_}
 use lib.ListN.{length}
-use Rattle.sha1.proofs.Macs.{last-law}
+use Rattle.sha1_block.specs.Block.{sha1Hash}
+use Rattle.sha1.proofs.Laws.{last-law}
 use borrow.Author.Needs.{needs}
 use Rattle.sha1.proofs.mac.last_block.Statement.{statement}
 use Rattle.sha1.proofs.mac.last_block.Tie as tie
 
 returns : tie.Need-returns
+unfolding sha1Hash
 returns c =
     let l : length (c .before .before .args .t1) ≡ 20 = search needs in
     last-law (c .before .before .args .t1) _ l (c .copied .ensures)

@@ -6,7 +6,7 @@ use mathlib.Core.List.{_++_}
 use native.Mathlib.Omega.{arith}
 use lib.ListN.{length, take, drop}
 use Rattle.hmac.specs.Hmac.{xored}
-use Rattle.sha1.proofs.Macs.{masked-turn, masked-end}
+use Rattle.running.proofs.Macs.{masked-turn, masked-end}
 use Rattle.sha1.proofs.mac.masked.Statement.{statement}
 use Rattle.sha1.proofs.mac.masked.Tie as tie
 

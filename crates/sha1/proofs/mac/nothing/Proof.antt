@@ -1,5 +1,5 @@
 -- `nothing` keeps its promise.
-use Rattle.sha1.specs.Mac.{spent}
+use Rattle.running.specs.Mac.{spent}
 use borrow.Author.Needs.{needs}
 use Rattle.sha1.proofs.mac.nothing.Statement.{statement}
 use Rattle.sha1.proofs.mac.nothing.Tie as tie

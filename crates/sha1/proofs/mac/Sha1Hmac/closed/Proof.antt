@@ -1,18 +1,22 @@
 -- `Sha1Hmac::closed` keeps its promise: the inner code goes into the outer hash's last block.
 use mathlib.Core.Path.{refl}
-use Rattle.sha1.proofs.Macs.{mac-closed}
-use Rattle.sha1.proofs.Promised.{hashed-as}
+use Rattle.sha1_block.specs.Block.{sha1Hash}
+use Rattle.sha1_block.proofs.Laws.{sha1-sized}
+use Rattle.sha1.specs.View.{macStateOf}
+use Rattle.running.proofs.Macs.{mac-closed}
+use Rattle.running.proofs.Promised.{yes, as-yes}
 use borrow.Author.Needs.{needs}
 use Rattle.sha1.proofs.mac.Sha1Hmac.closed.Statement.{statement}
 use Rattle.sha1.proofs.mac.Sha1Hmac.closed.Tie as tie
 
 returns : tie.Need-returns
 returns c =
-    let p = mac-closed (c .before .before .before .before .before .before .before .before .before .before .args .self)
-    (c .before .before .before .before .before .before .before .closed .result) _ _ _ _
-    (c .before .before .before .before .before .before .before .closed .ensures) (c .before .before .before .before .before .last-block .ensures)
+    let q = yes (c .before .before .before .before .before .before .before .closed .ensures) in
+    let p = mac-closed sha1Hash sha1-sized
+    (macStateOf (c .before .before .before .before .before .before .before .before .before .before .args .self)) _ _ _ _ _ _ (q .1) (q .2)
+    (c .before .before .before .before .before .last-block .ensures)
     (c .before .before .before .before .wrapping-add-u32 .ensures) (c .before .before .blocks2 .ensures) (c .before .wrapping-add-u322 .ensures) in
-    hashed-as (c .done .ensures) refl _ _ (p .0) (p .1)
+    as-yes (c .done .ensures) refl _ _ _ (p .0) (p .1)
 
 pub closed-spec : {M : Type 1} → statement M
 closed-spec =

@@ -7,7 +7,7 @@ use mathlib.Core.List.{List, _∷_, _++_, append-nil}
 use lib.ListN.{length, getD, take, drop, set, replicate, length-append, length-replicate, length-take}
 use lib.Seq.{paste, paste-suc, take-at, take-length, take-append-add, drop-append-add}
 use Rattle.octets.proofs.Filled.{drop-replicate}
-use Rattle.sha1.specs.Running.{room}
+use Rattle.running.specs.Running.{room}
 
 pub length-room : (p : List ℕ) → length p ≤ 64 → length (room p) ≡ 64
 unfolding room

@@ -1,0 +1,11 @@
+pub mod Rooms
+pub mod Blocks
+pub mod Takes
+pub mod Closes
+pub mod Sizes
+pub mod Ends
+pub mod Macs
+pub mod Promised
+pub mod Fed
+pub mod Coded
+pub mod Givens

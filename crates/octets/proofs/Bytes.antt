@@ -1,10 +1,10 @@
 -- Bytes stay bytes: laws of `Bytes` under what is done with lists.
-use Prim.Native.Nat.{ℕ, zero, suc, _+_, _<_, _≤_}
+use Prim.Native.Nat.{ℕ, zero, suc, _<_}
 use native.Mathlib.Omega.{arith}
 use mathlib.Core.List.{List, [], _∷_, _++_}
-use lib.ListN.{length, getD, take, drop, replicate}
+use lib.ListN.{take, drop, replicate}
 use Rattle.octets.specs.Bytes.{Bytes}
-use Rattle.octets.specs.Place.{part, pasted}
+use Rattle.octets.specs.Place.{part}
 
 pub bytes-nil : Bytes []
 bytes-nil i = omega arith
@@ -36,8 +36,3 @@ bytes-part l a n h = bytes-take n (drop a l) (bytes-drop a l h)
 pub bytes-replicate : (n b : ℕ) → b < 256 → Bytes (replicate n b)
 bytes-replicate zero b h = bytes-nil
 bytes-replicate (suc n) b h = bytes-cons b (replicate n b) h (bytes-replicate n b h)
-
-pub bytes-pasted : (d : List ℕ) (a : ℕ) (s : List ℕ) → Bytes d → Bytes s → Bytes (pasted d a s)
-unfolding pasted
-bytes-pasted d a s h g =
-    bytes-append (take a d) _ (bytes-take a d h) (bytes-append s _ g (bytes-drop (a + length s) d h))

@@ -1,5 +1,5 @@
 -- Laws of the test for equal lists, and of the sum of differences by which code compares.
-use Prim.Native.Nat.{ℕ, zero, suc, _+_, _<_, _≤_}
+use Prim.Native.Nat.{ℕ, suc, _+_, _<_}
 use native.Mathlib.Omega.{arith}
 use native.Mathlib.Nat.{le-of-lt}
 use native.Mathlib.Numerals.{add-one}
@@ -13,7 +13,8 @@ use lib.Seq.{take-suc, length-take-le}
 use borrow.Author.Tests.{eqb-true, eqb-false, eq-eqb, ne-eqb}
 use Rattle.octets.specs.Equal.{same}
 
-and-inv : (s t : Bool) → (s && t) ≡ true → (s ≡ true) × (t ≡ true)
+-- two tests that pass together pass each
+pub and-inv : (s t : Bool) → (s && t) ≡ true → (s ≡ true) × (t ≡ true)
 and-inv true true e = (refl, refl)
 and-inv true false e = absurd (false≢true e)
 and-inv false t e = absurd (false≢true e)

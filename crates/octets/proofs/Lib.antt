@@ -2,6 +2,11 @@ pub mod Order
 pub mod Bytes
 pub mod Number
 pub mod Place
+pub mod Pieces
 pub mod Filled
 pub mod Equal
+pub mod Tab
+pub mod Xor
+pub mod Agree
+pub mod ByBits
 pub mod Only

@@ -1,11 +1,10 @@
 -- Laws of numbers as bytes, at any width: sizes, and that each way undoes the other.
 use Prim.Native.Nat.{ℕ, zero, suc, _+_, _*_, _/_, _%_, _^_, _<_, _≤_}
 use native.Mathlib.Omega.{arith}
-use native.Mathlib.Numerals.{add-one}
 use mathlib.Core.List.{List, [], _∷_, _++_, append-nil}
 use mathlib.Core.Logic.{⊎-elim}
 use mathlib.Core.Path.{_≡_, refl, sym, _∙_, ap, ap₂}
-use lib.ListN.{length, getD, take, drop, length-append, drop-of-length-le, List·getD-eq-default}
+use lib.ListN.{length, getD, take, length-append, drop-of-length-le, List·getD-eq-default}
 use lib.Seq.{drop-cons, append-snoc}
 use Rattle.octets.specs.Bytes.{Bytes}
 use Rattle.octets.specs.Number.{le, unle, be, onto, unbe}
@@ -16,10 +15,6 @@ use Rattle.octets.proofs.Bytes.{bytes-nil, bytes-cons, bytes-tail, byte
 pub length-le : (w n : ℕ) → length (le w n) ≡ w
 length-le zero n = refl
 length-le (suc w) n = ap suc (length-le w (n / 256))
-
-pub bytes-le : (w n : ℕ) → Bytes (le w n)
-bytes-le zero n = bytes-nil
-bytes-le (suc w) n = bytes-cons (n % 256) (le w (n / 256)) (omega arith) (bytes-le w (n / 256))
 
 -- a number that fits into w bytes comes back
 pub unle-le : (w n : ℕ) → n < 256 ^ w → unle (le w n) ≡ n

@@ -8,11 +8,11 @@ use denote.Ref.{now}
 use Rattle.octets.specs.Promise.{PutPromise}
 use Rattle.octets.proofs.le2.Reads as le2-reads
 use Rattle.octets.proofs.le4.Reads as le4-reads
+use Rattle.octets.proofs.be4.Reads as be4-reads
+use Rattle.octets.proofs.be8.Reads as be8-reads
 use Rattle.octets.proofs.load_le2.Reads as load-le2-reads
 use Rattle.octets.proofs.load_le4.Reads as load-le4-reads
 use Rattle.octets.proofs.put.Reads as put-reads
-use Rattle.octets.proofs.store_le2.Reads as store-le2-reads
-use Rattle.octets.proofs.store_le4.Reads as store-le4-reads
 use Rattle.octets.proofs.same.Reads as same-reads
 use Rattle.octets.proofs.block.Reads as block-reads
 
@@ -21,6 +21,12 @@ le2-only κs args a b s t p q = p ∙ sym q
 
 pub le4-only : (κs : _) (args : _) (a b : _) (s t : _) → le4-reads.Post κs args a s → le4-reads.Post κs args b t → a ≡ b
 le4-only κs args a b s t p q = p ∙ sym q
+
+pub be4-only : (κs : _) (args : _) (a b : _) (s t : _) → be4-reads.Post κs args a s → be4-reads.Post κs args b t → a ≡ b
+be4-only κs args a b s t p q = p ∙ sym q
+
+pub be8-only : (κs : _) (args : _) (a b : _) (s t : _) → be8-reads.Post κs args a s → be8-reads.Post κs args b t → a ≡ b
+be8-only κs args a b s t p q = p ∙ sym q
 
 pub load-le2-only : (κs : _) (args : _) (a b : _) (s t : _)
     → load-le2-reads.Post κs args a s → load-le2-reads.Post κs args b t → a ≡ b
@@ -43,11 +49,3 @@ promise-only d n m a b x y p q = (p .answer ∙ sym (q .answer), p .buffer ∙ s
 pub put-only : (κs : _) (args : _) (a b : _) (s t : _)
     → put-reads.Post κs args a s → put-reads.Post κs args b t → (a ≡ b) × (now (s .0) ≡ now (t .0))
 put-only κs args a b s t p q = promise-only _ _ _ a b _ _ p q
-
-pub store-le2-only : (κs : _) (args : _) (a b : _) (s t : _)
-    → store-le2-reads.Post κs args a s → store-le2-reads.Post κs args b t → (a ≡ b) × (now (s .0) ≡ now (t .0))
-store-le2-only κs args a b s t p q = promise-only _ _ _ a b _ _ p q
-
-pub store-le4-only : (κs : _) (args : _) (a b : _) (s t : _)
-    → store-le4-reads.Post κs args a s → store-le4-reads.Post κs args b t → (a ≡ b) × (now (s .0) ≡ now (t .0))
-store-le4-only κs args a b s t p q = promise-only _ _ _ a b _ _ p q

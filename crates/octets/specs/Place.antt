@@ -1,6 +1,6 @@
 -- Places in a list (docs/RULES.md, 2.4, 2.4.1 and 2.5): a part of it, and what it holds after bytes were put there.
 use Prim.Native.Nat.{ℕ, _+_, _-_}
-use mathlib.Core.Bool.{Bool, true, false}
+use mathlib.Core.Bool.{Bool, cond}
 use mathlib.Core.List.{List, _++_}
 use lib.ListN.{length, take, drop, replicate}
 use lib.Dec.{leb}
@@ -25,10 +25,6 @@ begun s d = s ++ drop (length s) d
 abbrev pub fits : List ℕ → ℕ → ℕ → Bool
 fits d a n = leb (a + n) (length d)
 
-abbrev pub either : Bool → List ℕ → List ℕ → List ℕ
-either true x y = x
-either false x y = y
-
 -- d after s was put at a: pasted where all of s fits, else as found
 unfoldable pub placed : List ℕ → ℕ → List ℕ → List ℕ
-placed d a s = either (fits d a (length s)) (pasted d a s) d
+placed d a s = cond (fits d a (length s)) (pasted d a s) d

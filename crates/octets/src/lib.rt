@@ -2,7 +2,7 @@
 ghost use mathlib.Core.Path.{_≡_};
 ghost use Prim.Native.Nat.{_+_, _<_, _≤_};
 ghost use lib.ListN.{length, getD};
-ghost use Rattle.octets.specs.Number.{le, unle};
+ghost use Rattle.octets.specs.Number.{le, unle, be};
 ghost use Rattle.octets.specs.Place.{part, filled, pasted};
 ghost use Rattle.octets.specs.Equal.{same};
 ghost use Rattle.octets.specs.Promise.{PutPromise};
@@ -26,8 +26,36 @@ pub fn le4(n: u32) -> [u8; 4]
     ]
 }
 
+// A number as four bytes, the high byte first.
+pub fn be4(n: u32) -> [u8; 4]
+    ensures { λ r. ⌜ r ≡ be 4 n ⌝ }
+{
+    [
+        (n / 256 / 256 / 256 % 256) as u8,
+        (n / 256 / 256 % 256) as u8,
+        (n / 256 % 256) as u8,
+        (n % 256) as u8,
+    ]
+}
+
+// A number as eight bytes, the high byte first.
+pub fn be8(n: u64) -> [u8; 8]
+    ensures { λ r. ⌜ r ≡ be 8 n ⌝ }
+{
+    [
+        (n / 256 / 256 / 256 / 256 / 256 / 256 / 256 % 256) as u8,
+        (n / 256 / 256 / 256 / 256 / 256 / 256 % 256) as u8,
+        (n / 256 / 256 / 256 / 256 / 256 % 256) as u8,
+        (n / 256 / 256 / 256 / 256 % 256) as u8,
+        (n / 256 / 256 / 256 % 256) as u8,
+        (n / 256 / 256 % 256) as u8,
+        (n / 256 % 256) as u8,
+        (n % 256) as u8,
+    ]
+}
+
 // The byte k places after `at`, 0 past the end: so every place can be asked.
-fn byte(s: &[u8], at: usize, k: usize) -> u32
+fn load_byte(s: &[u8], at: usize, k: usize) -> u32
     ensures { λ r. ⌜ (r ≡ getD (now (s .entry)) (at + k) 0) × (r < 256) ⌝ }
 {
     if s.len() <= at {
@@ -43,14 +71,15 @@ fn byte(s: &[u8], at: usize, k: usize) -> u32
 pub fn load_le2(s: &[u8], at: usize) -> u16
     ensures { λ r. ⌜ r ≡ unle (part (now (s .entry)) at 2) ⌝ }
 {
-    (byte(s, at, 0) + 256 * byte(s, at, 1)) as u16
+    (load_byte(s, at, 0) + 256 * load_byte(s, at, 1)) as u16
 }
 
 // The number that the four bytes from `at` on say, the low byte first; bytes past the end count as 0.
 pub fn load_le4(s: &[u8], at: usize) -> u32
     ensures { λ r. ⌜ r ≡ unle (part (now (s .entry)) at 4) ⌝ }
 {
-    byte(s, at, 0) + 256 * (byte(s, at, 1) + 256 * (byte(s, at, 2) + 256 * byte(s, at, 3)))
+    load_byte(s, at, 0)
+        + 256 * (load_byte(s, at, 1) + 256 * (load_byte(s, at, 2) + 256 * load_byte(s, at, 3)))
 }
 
 // The sixteen bytes from `at` on; bytes past the end count as 0.
@@ -69,6 +98,7 @@ pub fn block(s: &[u8], at: usize) -> [u8; 16]
     b
 }
 
+// Copies `src` into `dst` at `at`, where all of it is known to fit.
 fn copy(dst: &mut [u8], at: usize, src: &[u8])
     requires { ⌜ at + length (now src) ≤ length (now dst) ⌝ }
     ensures { λ _. ⌜ now (dst .exit) ≡ pasted (now (dst .entry)) at (now (src .entry)) ⌝ }
@@ -92,22 +122,6 @@ pub fn put(dst: &mut [u8], at: usize, src: &[u8]) -> bool
     }
     copy(dst, at, src);
     true
-}
-
-// Stores a number as two bytes at `at`, the low byte first, as `put` does.
-pub fn store_le2(dst: &mut [u8], at: usize, n: u16) -> bool
-    ensures { λ r. ⌜ PutPromise (now (dst .entry)) at (le 2 n) r (now (dst .exit)) ⌝ }
-{
-    let bytes = le2(n);
-    put(dst, at, &bytes)
-}
-
-// Stores a number as four bytes at `at`, the low byte first, as `put` does.
-pub fn store_le4(dst: &mut [u8], at: usize, n: u32) -> bool
-    ensures { λ r. ⌜ PutPromise (now (dst .entry)) at (le 4 n) r (now (dst .exit)) ⌝ }
-{
-    let bytes = le4(n);
-    put(dst, at, &bytes)
 }
 
 // Whether the two are equal. Of two of one length every byte is looked at, wherever the first difference is: a code that is

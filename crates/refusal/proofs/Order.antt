@@ -1,7 +1,7 @@
 -- Laws of the order of refusals. A proof over a chain of tests cites these and never opens `need` or `andThen`.
 use Prim.Native.Nat.{ℕ}
 use mathlib.Core.Bool.{Bool, true, false, false≢true, true≢false}
-use mathlib.Core.Path.{_≡_, refl, sym, _∙_, ap}
+use mathlib.Core.Path.{_≡_, refl, ap}
 use Rattle.refusal.specs.Order.{Res, refuse, accept, need, andThen}
 
 module _ {A : Type 0} where

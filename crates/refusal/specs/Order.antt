@@ -16,3 +16,8 @@ need false n v r = refuse n v
 unfoldable pub andThen : {A B : Type 0} → Res A → (A → Res B) → Res B
 andThen (refuse n v) f = refuse n v
 andThen (accept a) f = f a
+
+-- what is left of an answer where only its being accepted counts
+abbrev pub done : {A : Type 0} → Res A → Res (Unit {0})
+done (refuse n v) = refuse n v
+done (accept a) = accept tt

@@ -1,91 +1,65 @@
 -- The table of refusals (docs/RULES.md, 1.1 and 1.2): what number each refusal has, and which of them carry a byte of the
 -- input. Every promise of the layer says a refusal by these.
 use Prim.Native.Nat.{ℕ}
-use mathlib.Core.Bool.{Bool, true, false, _||_}
+use mathlib.Core.Bool.{Bool, true, false, _||_, _&&_, not}
 use mathlib.Core.List.{List, [], _∷_}
 use lib.Dec.{eqb}
 use Rattle.refusal.specs.declared.Refusal.{Refusal}
-use Rattle.refusal.specs.declared.Refusal.the-variants.{NotEnoughData, NotIpmiV2_0, InvalidPayloadType, MismatchingEncryptionState, MismatchingAuthenticationState, IncorrectIntegrityTrailerLen, AuthCodeMismatch, UnknownNextHeader, IncorrectPayloadLen, IncorrectConfidentialityTrailerLen, InvalidConfidentialityTrailer, NotWholeBlocks, PayloadTooLong, EncryptedPayloadTooLong, OutputTooShort, NotRmcpForIpmi, NamedStatus, UnnamedStatus, InvalidPrivilegeLevel, ZeroRemoteConsoleSessionId, ZeroManagedSystemSessionId, IncorrectPayloadLenValue, UnknownAlgorithm, UnknownBlockType, WrongKindOfBlock, IncorrectDataLen, MessageTagMismatch, SessionIdMismatch, AlgorithmNotCarried, InvalidKeyExchangeAuthCodeLen, Declined, InvalidIntegrityCheckValue, WrongStep, InvalidUsername, InvalidKgLen, PasswordTooLong, TooLongToHash}
+use Rattle.refusal.specs.declared.Refusal.the-variants as refusal
 
--- the number in the table
+-- a refusal's number, and the byte of the input that goes with it, 0 where none does
+abbrev pub entryOf : Refusal → ℕ × ℕ
+entryOf refusal.NotEnoughData = (1, 0)
+entryOf refusal.NotIpmiV2_0 = (2, 0)
+entryOf (refusal.InvalidPayloadType b) = (3, b)
+entryOf refusal.MismatchingEncryptionState = (4, 0)
+entryOf refusal.MismatchingAuthenticationState = (5, 0)
+entryOf refusal.IncorrectIntegrityTrailerLen = (6, 0)
+entryOf refusal.AuthCodeMismatch = (7, 0)
+entryOf (refusal.UnknownNextHeader b) = (8, b)
+entryOf refusal.IncorrectPayloadLen = (9, 0)
+entryOf refusal.IncorrectConfidentialityTrailerLen = (10, 0)
+entryOf refusal.InvalidConfidentialityTrailer = (11, 0)
+entryOf refusal.NotWholeBlocks = (12, 0)
+entryOf refusal.PayloadTooLong = (13, 0)
+entryOf refusal.EncryptedPayloadTooLong = (14, 0)
+entryOf refusal.OutputTooShort = (15, 0)
+entryOf refusal.NotRmcpForIpmi = (16, 0)
+entryOf (refusal.NamedStatus b) = (17, b)
+entryOf (refusal.UnnamedStatus b) = (18, b)
+entryOf (refusal.InvalidPrivilegeLevel b) = (19, b)
+entryOf refusal.ZeroRemoteConsoleSessionId = (20, 0)
+entryOf refusal.ZeroManagedSystemSessionId = (21, 0)
+entryOf refusal.IncorrectPayloadLenValue = (22, 0)
+entryOf (refusal.UnknownAlgorithm b) = (23, b)
+entryOf (refusal.UnknownBlockType b) = (24, b)
+entryOf refusal.WrongKindOfBlock = (25, 0)
+entryOf refusal.IncorrectDataLen = (26, 0)
+entryOf refusal.MessageTagMismatch = (27, 0)
+entryOf refusal.SessionIdMismatch = (28, 0)
+entryOf refusal.AlgorithmNotCarried = (29, 0)
+entryOf refusal.InvalidKeyExchangeAuthCodeLen = (30, 0)
+entryOf refusal.Declined = (31, 0)
+entryOf refusal.InvalidIntegrityCheckValue = (32, 0)
+entryOf refusal.WrongStep = (33, 0)
+entryOf refusal.InvalidUsername = (34, 0)
+entryOf refusal.InvalidKgLen = (35, 0)
+entryOf refusal.PasswordTooLong = (36, 0)
+entryOf refusal.TooLongToHash = (37, 0)
+
 abbrev pub numberOf : Refusal → ℕ
-numberOf NotEnoughData = 1
-numberOf NotIpmiV2_0 = 2
-numberOf (InvalidPayloadType b) = 3
-numberOf MismatchingEncryptionState = 4
-numberOf MismatchingAuthenticationState = 5
-numberOf IncorrectIntegrityTrailerLen = 6
-numberOf AuthCodeMismatch = 7
-numberOf (UnknownNextHeader b) = 8
-numberOf IncorrectPayloadLen = 9
-numberOf IncorrectConfidentialityTrailerLen = 10
-numberOf InvalidConfidentialityTrailer = 11
-numberOf NotWholeBlocks = 12
-numberOf PayloadTooLong = 13
-numberOf EncryptedPayloadTooLong = 14
-numberOf OutputTooShort = 15
-numberOf NotRmcpForIpmi = 16
-numberOf (NamedStatus b) = 17
-numberOf (UnnamedStatus b) = 18
-numberOf (InvalidPrivilegeLevel b) = 19
-numberOf ZeroRemoteConsoleSessionId = 20
-numberOf ZeroManagedSystemSessionId = 21
-numberOf IncorrectPayloadLenValue = 22
-numberOf (UnknownAlgorithm b) = 23
-numberOf (UnknownBlockType b) = 24
-numberOf WrongKindOfBlock = 25
-numberOf IncorrectDataLen = 26
-numberOf MessageTagMismatch = 27
-numberOf SessionIdMismatch = 28
-numberOf AlgorithmNotCarried = 29
-numberOf InvalidKeyExchangeAuthCodeLen = 30
-numberOf Declined = 31
-numberOf InvalidIntegrityCheckValue = 32
-numberOf WrongStep = 33
-numberOf InvalidUsername = 34
-numberOf InvalidKgLen = 35
-numberOf PasswordTooLong = 36
-numberOf TooLongToHash = 37
+numberOf r = entryOf r .0
 
--- the byte of the input that goes with the number, 0 where none does
 abbrev pub valueOf : Refusal → ℕ
-valueOf NotEnoughData = 0
-valueOf NotIpmiV2_0 = 0
-valueOf (InvalidPayloadType b) = b
-valueOf MismatchingEncryptionState = 0
-valueOf MismatchingAuthenticationState = 0
-valueOf IncorrectIntegrityTrailerLen = 0
-valueOf AuthCodeMismatch = 0
-valueOf (UnknownNextHeader b) = b
-valueOf IncorrectPayloadLen = 0
-valueOf IncorrectConfidentialityTrailerLen = 0
-valueOf InvalidConfidentialityTrailer = 0
-valueOf NotWholeBlocks = 0
-valueOf PayloadTooLong = 0
-valueOf EncryptedPayloadTooLong = 0
-valueOf OutputTooShort = 0
-valueOf NotRmcpForIpmi = 0
-valueOf (NamedStatus b) = b
-valueOf (UnnamedStatus b) = b
-valueOf (InvalidPrivilegeLevel b) = b
-valueOf ZeroRemoteConsoleSessionId = 0
-valueOf ZeroManagedSystemSessionId = 0
-valueOf IncorrectPayloadLenValue = 0
-valueOf (UnknownAlgorithm b) = b
-valueOf (UnknownBlockType b) = b
-valueOf WrongKindOfBlock = 0
-valueOf IncorrectDataLen = 0
-valueOf MessageTagMismatch = 0
-valueOf SessionIdMismatch = 0
-valueOf AlgorithmNotCarried = 0
-valueOf InvalidKeyExchangeAuthCodeLen = 0
-valueOf Declined = 0
-valueOf InvalidIntegrityCheckValue = 0
-valueOf WrongStep = 0
-valueOf InvalidUsername = 0
-valueOf InvalidKgLen = 0
-valueOf PasswordTooLong = 0
-valueOf TooLongToHash = 0
+valueOf r = entryOf r .1
+
+-- the numbers that name a refusal; any other names none
+abbrev pub numbers : List ℕ
+numbers =
+    1 ∷ 2 ∷ 3 ∷ 4 ∷ 5 ∷ 6 ∷ 7 ∷ 8 ∷ 9 ∷ 10 ∷
+    11 ∷ 12 ∷ 13 ∷ 14 ∷ 15 ∷ 16 ∷ 17 ∷ 18 ∷ 19 ∷ 20 ∷
+    21 ∷ 22 ∷ 23 ∷ 24 ∷ 25 ∷ 26 ∷ 27 ∷ 28 ∷ 29 ∷ 30 ∷
+    31 ∷ 32 ∷ 33 ∷ 34 ∷ 35 ∷ 36 ∷ 37 ∷ []
 
 -- the numbers that a byte goes with: 3 the six bits of the type, the others a whole byte
 abbrev pub carrying : List ℕ
@@ -94,6 +68,11 @@ carrying = 3 ∷ 8 ∷ 17 ∷ 18 ∷ 19 ∷ 23 ∷ 24 ∷ []
 abbrev pub among : ℕ → List ℕ → Bool
 among n [] = false
 among n (m ∷ ms) = eqb n m || among n ms
+
+-- whether no number stands twice in a list
+abbrev pub unrepeated : List ℕ → Bool
+unrepeated [] = true
+unrepeated (n ∷ ns) = not (among n ns) && unrepeated ns
 
 -- whether a byte of the input goes with the number
 abbrev pub carriesOf : Refusal → Bool

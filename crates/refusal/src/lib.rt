@@ -43,6 +43,12 @@ pub enum Refusal {
     TooLongToHash,
 }
 
+// Whether a call did what it was asked to, and if not, why.
+pub enum Outcome {
+    Done,
+    Refused(Refusal),
+}
+
 impl Refusal {
     // The number that operators know the refusal by.
     pub fn number(self) -> u8

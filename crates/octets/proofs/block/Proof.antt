@@ -15,7 +15,9 @@ returns c = let a = c .before .before .args in filled-past 16 (a .s .now) (a .at
 returns-2 : tie.Need-returns-2
 returns-2 c =
     let a = c .before .before .before .before .before .before .before .args in
-    put-part 16 (length (a .s .now) - a .at) (a .s .now) (a .at) _ _ (c .before .put .ensures) (omega arith) (part-rest 16 (a .s .now) (a .at) (omega arith)) (omega arith)
+    let put = c .before .put in
+    put-part 16 (length (a .s .now) - a .at) (a .s .now) (a .at) _ _ (put .ensures) (omega arith)
+    (part-rest 16 (a .s .now) (a .at) (omega arith)) (omega arith)
 
 returns-3 : tie.Need-returns-3
 returns-3 c =

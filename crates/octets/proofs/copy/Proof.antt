@@ -1,5 +1,5 @@
 -- `copy` keeps its promise: after i turns the first i bytes of the source are pasted.
-use mathlib.Core.Path.{_≡_, refl, sym, _∙_, ap}
+use mathlib.Core.Path.{_≡_, refl, _∙_, ap}
 use Prim.Native.Nat.{_≤_, _-_}
 use native.Mathlib.Omega.{arith}
 use lib.ListN.{length, length-set}
@@ -21,8 +21,11 @@ loop-holds c = let a = c .args in (omega arith, paste-zero (a .dst .now) (a .at)
 loop-again : tie.Need-loop-again Inv-loop μ-loop
 loop-again c =
     let l = c .before .before .loop in
-    let a = c .before .before .before .args in
-    (omega arith, copy-turn (l .dst) (a .dst .now) (a .src .now) (a .at) (l .i) (l .inv .1) (omega arith) (omega arith), length-set (l .dst) _ _ ∙ l .inv .2)
+    let a = c .before .before .before .args in (
+      omega arith,
+      copy-turn (l .dst) (a .dst .now) (a .src .now) (a .at) (l .i) (l .inv .1) (omega arith) (omega arith),
+      length-set (l .dst) _ _ ∙ l .inv .2,
+    )
 
 same-length : tie.Need-same-length Inv-loop μ-loop
 same-length c = c .before .loop .inv .2

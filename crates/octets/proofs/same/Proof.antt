@@ -1,7 +1,7 @@
 -- `same` keeps its promise: after i turns the sum of differences is zero exactly where the first i bytes are equal.
 use mathlib.Core.Path.{ap₂}
 use lib.Seq.{take-all}
-use mathlib.Core.Path.{_≡_, refl, sym, _∙_, ap}
+use mathlib.Core.Path.{_≡_, refl, sym, _∙_}
 use Prim.Native.Nat.{_≤_, _-_}
 use native.Mathlib.Omega.{arith}
 use lib.Dec.{eqb}
@@ -25,7 +25,9 @@ loop-holds : tie.Need-loop-holds Inv-loop μ-loop
 loop-holds c = (omega arith, omega arith, refl)
 
 loop-again : tie.Need-loop-again Inv-loop μ-loop
-loop-again c = let l = c .before .before .before .loop in (omega arith, omega arith, same-turn _ _ (l .d) (l .i) (omega arith) (l .inv .1) (l .inv .2))
+loop-again c =
+    let l = c .before .before .before .loop in
+    (omega arith, omega arith, same-turn _ _ (l .d) (l .i) (omega arith) (l .inv .1) (l .inv .2))
 
 returns-2 : tie.Need-returns-2 Inv-loop μ-loop
 returns-2 c =

@@ -1,3 +1,4 @@
 pub mod Keyed
+pub mod Masked
 pub mod Counted
 pub mod Nested

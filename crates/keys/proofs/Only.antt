@@ -1,8 +1,5 @@
 -- No second answer: two answers that keep a call's promise on the same arguments are equal; of a part handed out, its bytes and
 -- its place.
-use Prim.Native.Nat.{ℕ}
-use mathlib.Core.Bool.{Bool}
-use mathlib.Core.List.{List}
 use mathlib.Core.Path.{_≡_, sym, _∙_}
 use denote.Ref.{now, ptr}
 use Rattle.sha1.proofs.Only.{hashed-one}

@@ -26,5 +26,5 @@ module _ {C : Type 0} (H : Hash C) (ok : Sized H) {z v : List ℕ} {t : Res Unit
       ap (reads j) (yes q .1) ∙ reads-take j (hmacOf H k m) (omega (arith, mac-length H ok k m))
 
   -- the code that one call makes, of a key and a message that are taken
-  pub key-is : length k ≤ 1048576 → length m ≤ 1048576 → HmacPromise H (λ d. d) z k m t v b → v ≡ hmacOf H k m
+  pub key-is : length k ≤ limit → length m ≤ limit → HmacPromise H (λ d. d) z k m t v b → v ≡ hmacOf H k m
   key-is lk lm p = yes (mac-whole H ok (λ d. d) k m p lk lm) .1

@@ -1,8 +1,9 @@
 // The codes by which console and system show that they know the password, and the key from which a session's keys come.
 // The name is 16 bytes and a length; a length over 16 counts as 16.
 ghost use mathlib.Core.Path.{_≡_};
-ghost use mathlib.Core.List.{List, [], _++_};
-ghost use Prim.Native.Nat.{ℕ, _+_, _≤_, min};
+ghost use mathlib.Core.Bool.{cond};
+ghost use mathlib.Core.List.{[]};
+ghost use Prim.Native.Nat.{_+_, min};
 ghost use denote.Ref.{ptr};
 ghost use lib.Dec.{leb};
 ghost use lib.ListN.{length, take};
@@ -10,9 +11,9 @@ ghost use Rattle.octets.specs.Number.{le};
 ghost use Rattle.running.specs.Promise.{limit};
 ghost use Rattle.sha1.specs.Answers.{HashedPromise};
 ghost use Rattle.sha1.specs.Hash.{hmacSha1, hmacBlocks};
-ghost use Rattle.keys.specs.Chosen.{chosen, absent, keyOf};
-ghost use Rattle.keys.specs.Codes.{roleName, text2, textSik, text3, text4, value4};
-ghost use Rattle.running.specs.Given.{Given};
+ghost use Rattle.keys.specs.Chosen.{absent, keyOf};
+ghost use Rattle.keys.specs.Codes.{roleName, text2, textSik, text3, value4};
+ghost use Rattle.running.specs.Given.{Given, Takes};
 ghost use Rattle.sha1_block.specs.Block.{sha1Hash};
 ghost use Rattle.sha1.specs.View.{macStateOf};
 use octets::le4;
@@ -21,13 +22,14 @@ use sha1::Sha1Hmac;
 
 // The key that makes the SIK: the Kg if one was lent, else the password. No other place chooses between the two.
 pub fn kg<'a>(kg: &'a [u8], password: &'a [u8]) -> &'a [u8]
-    ensures { λ r. ⌜ (now r ≡ keyOf (now (kg .entry)) (now (password .entry))) × (ptr r ≡ chosen (absent (now (kg .entry))) (ptr (kg .entry)) (ptr (password .entry))) ⌝ }
+    ensures { λ r. ⌜ (now r ≡ keyOf (now (kg .entry)) (now (password .entry)))
+        × (ptr r ≡ cond (absent (now (kg .entry))) (ptr (password .entry)) (ptr (kg .entry))) ⌝ }
 {
     if kg.len() == 0 { password } else { kg }
 }
 
 // An HMAC under `key` before any byte.
-fn begun(key: &[u8]) -> Sha1Hmac
+fn begin(key: &[u8]) -> Sha1Hmac
     ensures { λ r. ⌜ Given sha1Hash (now (key .entry)) [] 0 (macStateOf r) ⌝ }
 {
     let b = Sha1Hmac::new(key);
@@ -35,30 +37,30 @@ fn begun(key: &[u8]) -> Sha1Hmac
 }
 
 // An HMAC under a SIK before any byte.
-fn begun_sik(sik: [u8; 20]) -> Sha1Hmac
+fn begin_with_sik(sik: [u8; 20]) -> Sha1Hmac
     ensures { λ r. ⌜ (Given sha1Hash sik [] 0 (macStateOf r)) × (length sik ≡ 20) ⌝ }
 {
-    begun(&sik)
+    begin(&sik)
 }
 
 // The HMAC after sixteen bytes more.
-fn fed16(m: Sha1Hmac, s: [u8; 16]) -> Sha1Hmac
-    ensures { λ r. ⌜ ((k l : List ℕ) (n : ℕ) → Given sha1Hash k l n (macStateOf m) → n ≤ 1000 → Given sha1Hash k (l ++ s) (n + 16) (macStateOf r)) ⌝ }
+fn feed16(m: Sha1Hmac, s: [u8; 16]) -> Sha1Hmac
+    ensures { λ r. ⌜ Takes sha1Hash (macStateOf m) s 16 (macStateOf r) ⌝ }
 {
     let f = m.feed(&s);
     f.mac
 }
 
 // The HMAC after a session id.
-fn fed_id(m: Sha1Hmac, id: u32) -> Sha1Hmac
-    ensures { λ r. ⌜ ((k l : List ℕ) (n : ℕ) → Given sha1Hash k l n (macStateOf m) → n ≤ 1000 → Given sha1Hash k (l ++ le 4 id) (n + 4) (macStateOf r)) ⌝ }
+fn feed_id(m: Sha1Hmac, id: u32) -> Sha1Hmac
+    ensures { λ r. ⌜ Takes sha1Hash (macStateOf m) (le 4 id) 4 (macStateOf r) ⌝ }
 {
     let f = m.feed(&le4(id));
     f.mac
 }
 
 // How many bytes of a name's sixteen count.
-fn counted(len: usize) -> u8
+fn clamp_len(len: usize) -> u8
     ensures { λ r. ⌜ r ≡ min len 16 ⌝ }
 {
     if len < 16 {
@@ -68,10 +70,10 @@ fn counted(len: usize) -> u8
 }
 
 // The HMAC after role byte, name length and name.
-fn fed_role(m: Sha1Hmac, role: u8, name: [u8; 16], len: usize) -> Sha1Hmac
-    ensures { λ r. ⌜ ((k l : List ℕ) (n : ℕ) → Given sha1Hash k l n (macStateOf m) → n ≤ 1000 → Given sha1Hash k (l ++ roleName role (take len name)) (n + (2 + min len 16)) (macStateOf r)) ⌝ }
+fn feed_role(m: Sha1Hmac, role: u8, name: [u8; 16], len: usize) -> Sha1Hmac
+    ensures { λ r. ⌜ Takes sha1Hash (macStateOf m) (roleName role (take len name)) (2 + min len 16) (macStateOf r) ⌝ }
 {
-    let n = counted(len);
+    let n = clamp_len(len);
     let head = [role, n];
     let a = m.feed(&head);
     let end = n as usize;
@@ -95,12 +97,12 @@ pub fn message_2_code(
         (hmacSha1 (now (password .entry)) (text2 sidm sidc rm rc guid (roleName role (take len name))))
         (hmacBlocks (now (password .entry)) (text2 sidm sidc rm rc guid (roleName role (take len name)))) r ⌝ }
 {
-    let a = fed_id(begun(password), sidm);
-    let b = fed_id(a, sidc);
-    let c = fed16(b, rm);
-    let d = fed16(c, rc);
-    let e = fed16(d, guid);
-    fed_role(e, role, name, len).finalize()
+    let a = feed_id(begin(password), sidm);
+    let b = feed_id(a, sidc);
+    let c = feed16(b, rm);
+    let d = feed16(c, rc);
+    let e = feed16(d, guid);
+    feed_role(e, role, name, len).finalize()
 }
 
 // The key from which the session's keys come.
@@ -117,9 +119,9 @@ pub fn sik<'a>(
         (hmacSha1 (keyOf (now (key .entry)) (now (password .entry))) (textSik rm rc (roleName role (take len name))))
         (hmacBlocks (keyOf (now (key .entry)) (now (password .entry))) (textSik rm rc (roleName role (take len name)))) r ⌝ }
 {
-    let a = fed16(begun(kg(key, password)), rm);
-    let b = fed16(a, rc);
-    fed_role(b, role, name, len).finalize()
+    let a = feed16(begin(kg(key, password)), rm);
+    let b = feed16(a, rc);
+    feed_role(b, role, name, len).finalize()
 }
 
 // Message 3's code: that the console knows the password.
@@ -135,18 +137,18 @@ pub fn message_3_code(
         (hmacSha1 (now (password .entry)) (text3 rc sidm (roleName role (take len name))))
         (hmacBlocks (now (password .entry)) (text3 rc sidm (roleName role (take len name)))) r ⌝ }
 {
-    let a = fed16(begun(password), rc);
-    let b = fed_id(a, sidm);
-    fed_role(b, role, name, len).finalize()
+    let a = feed16(begin(password), rc);
+    let b = feed_id(a, sidm);
+    feed_role(b, role, name, len).finalize()
 }
 
 // Message 4's value: that the system made the same SIK.
 pub fn message_4_value(sik: [u8; 20], rm: [u8; 16], sidc: u32, guid: [u8; 16]) -> [u8; 12]
     ensures { λ r. ⌜ r ≡ value4 hmacSha1 12 sik rm sidc guid ⌝ }
 {
-    let a = fed16(begun_sik(sik), rm);
-    let b = fed_id(a, sidc);
-    let done = fed16(b, guid).finalize();
+    let a = feed16(begin_with_sik(sik), rm);
+    let b = feed_id(a, sidc);
+    let done = feed16(b, guid).finalize();
     let d = done.digest;
     [
         d[0],

@@ -4,11 +4,11 @@ use native.Mathlib.Omega.{arith}
 use mathlib.Core.Path.{_≡_, refl, sym, _∙_, ap, ap₂}
 use mathlib.Core.List.{List, _++_}
 use lib.ListN.{length, take, drop, length-drop}
-use lib.Seq.{drop-drop, take-append-le, drop-append-le}
+use lib.Seq.{drop-drop, drop-at, take-append-le, drop-append-le}
 use Rattle.running.specs.Hash.{runs}
 
 module _ {C : Type 0} (compress : C → List ℕ → C) where
-  pub runs-add : (j k : ℕ) (h : C) (m : List ℕ) → runs compress (j + k) h m ≡ runs compress k (runs compress j h m) (drop (j * 64) m)
+  runs-add : (j k : ℕ) (h : C) (m : List ℕ) → runs compress (j + k) h m ≡ runs compress k (runs compress j h m) (drop (j * 64) m)
   unfolding runs
   runs-add zero k h m = let e : 0 + k ≡ k = omega arith in rw e refl
   runs-add (suc j) k h m =
@@ -18,7 +18,7 @@ module _ {C : Type 0} (compress : C → List ℕ → C) where
       ∙ ap (runs compress k (runs compress j (compress h (take 64 m)) (drop 64 m))) (drop-drop (j * 64) 64 m ∙ ap (λ (i : ℕ). drop i m) e))
 
   -- what stands behind the blocks that are hashed does not count
-  pub runs-front : (j : ℕ) (h : C) (m s : List ℕ) → j * 64 ≤ length m → runs compress j h (m ++ s) ≡ runs compress j h m
+  runs-front : (j : ℕ) (h : C) (m s : List ℕ) → j * 64 ≤ length m → runs compress j h (m ++ s) ≡ runs compress j h m
   unfolding runs
   runs-front zero h m s l = refl
   runs-front (suc j) h m s l =
@@ -45,3 +45,8 @@ module _ {C : Type 0} (compress : C → List ℕ → C) where
       → runs compress j (runs compress q h l) (drop (q * 64) l ++ b) ≡ runs compress (q + j) h (l ++ b)
   runs-on h l b q j m =
       ap₂ (runs compress j) (sym (runs-front q h l b m)) (sym (drop-append-le (q * 64) l b m)) ∙ sym (runs-add q j h (l ++ b))
+
+  -- a block o, then the first block of x
+  pub runs-two : (h : C) (o x : List ℕ) → length o ≡ 64 → runs compress 1 (runs compress 1 h o) x ≡ runs compress 2 h (o ++ x)
+  runs-two h o x e =
+      ap₂ (runs compress 1) (sym (runs-front 1 h o x (omega arith))) (sym (drop-at o x 64 e)) ∙ sym (runs-add 1 1 h (o ++ x))

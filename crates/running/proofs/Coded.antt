@@ -1,7 +1,7 @@
 -- The running HMAC by its calls' promises: a caller cites these, one line a piece.
 use Prim.Native.Nat.{ℕ, _+_, _≤_, _<_}
 use native.Mathlib.Omega.{arith}
-use mathlib.Core.Bool.{Bool, true, false, _&&_}
+use mathlib.Core.Bool.{true, cond}
 use mathlib.Core.Path.{_≡_, refl, _∙_, ap}
 use mathlib.Core.List.{List, [], _++_}
 use lib.ListN.{length}
@@ -11,19 +11,19 @@ use Rattle.refusal.specs.Order.{Res, refuse, accept}
 use Rattle.hmac.specs.Pieces.{joined, feeds}
 use Rattle.hmac.proofs.Nested.{run}
 use Rattle.running.specs.Hash.{Hash, Sized}
-use Rattle.running.specs.Mac.{MacState, hmacOf, hmacBlocksOf, macAfter, macTaken, macDigest, macCount, spent}
-use Rattle.running.specs.Promise.{limit, innerLimit, either, Answer, BegunPromise, MacFedPromise, MacEndPromise, HmacPromise}
+use Rattle.running.specs.Mac.{MacState, hmacOf, hmacBlocksOf, macAfter, macTaken, macRunning, macDigest, macCount, spent}
+use Rattle.running.specs.Promise.{limit, innerLimit, Answer, BegunPromise, MacFedPromise, MacEndPromise, HmacPromise}
 use Rattle.running.proofs.Macs.{mac-digest-after, mac-count-after, mac-taken-after, mac-len-after}
 use Rattle.running.proofs.Promised.{yes, no, as-yes, both}
 
 module _ {C : Type 0} (H : Hash C) (ok : Sized H) where
   module _ {A : Type 0} (f : MacState C → A) (key : List ℕ) {v : A} {t : Res Unit} {k : ℕ} (p : BegunPromise H f key t v k) where
     -- a key within the limit begins
-    pub mac-begun : length key ≤ 1048576 → v ≡ f (macAfter H key [])
-    mac-begun l = yes (rw (le-leb (length key) limit l) at p) .1
+    pub mac-begun : length key ≤ limit → (t ≡ accept tt) × (v ≡ f (macAfter H key [])) × (k ≡ macRunning (macAfter H key []))
+    mac-begun l = yes (rw (le-leb (length key) limit l) at p)
 
     -- a key past the limit is 37, tells 0 and leaves a state that takes nothing
-    pub mac-refused : 1048576 < length key → (t ≡ refuse 37 0) × (v ≡ f (spent H)) × (k ≡ 0)
+    pub mac-refused : limit < length key → (t ≡ refuse 37 0) × (v ≡ f (spent H)) × (k ≡ 0)
     mac-refused l = no (rw (lt-leb (length key) limit l) at p)
 
   module _ {A : Type 0} (f : MacState C → A) (key m s : List ℕ) {st : MacState C} {v : A} {t : Res Unit} {k : ℕ} (e : st ≡ macAfter H key m)
@@ -32,7 +32,7 @@ module _ {C : Type 0} (H : Hash C) (ok : Sized H) where
     inner-len = ap (λ (x : MacState C). x .inner .len) e ∙ mac-len-after H ok key m
 
     -- a piece is taken while the message is within the limit
-    pub mac-more : length m + length s ≤ 1048576 → (t ≡ accept tt) × (v ≡ f (macAfter H key (m ++ s)))
+    pub mac-more : length m + length s ≤ limit → (t ≡ accept tt) × (v ≡ f (macAfter H key (m ++ s)))
     mac-more l =
         let z = inner-len in
         let h : st .inner .len + length s ≤ innerLimit = omega arith in
@@ -40,7 +40,7 @@ module _ {C : Type 0} (H : Hash C) (ok : Sized H) where
         (q .0, q .1 ∙ ap f (ap (λ (x : MacState C). macTaken H x s) e ∙ mac-taken-after H ok key m s l))
 
     -- a piece past it is 37, tells 0 and leaves the state
-    pub mac-past : 1048576 < length m + length s → (t ≡ refuse 37 0) × (v ≡ f (macAfter H key m)) × (k ≡ 0)
+    pub mac-past : limit < length m + length s → (t ≡ refuse 37 0) × (v ≡ f (macAfter H key m)) × (k ≡ 0)
     mac-past l =
         let z = inner-len in
         let h : innerLimit < st .inner .len + length s = omega arith in
@@ -49,23 +49,22 @@ module _ {C : Type 0} (H : Hash C) (ok : Sized H) where
 
   -- what `feed` makes of a state
   abbrev pub macFed : MacState C → List ℕ → MacState C
-  macFed st s = either (leb (st .inner .len + length s) innerLimit) (macTaken H st s) st
+  macFed st s = cond (leb (st .inner .len + length s) innerLimit) (macTaken H st s) st
 
-  fed-more : (key m s : List ℕ) → length m + length s ≤ 1048576 → macFed (macAfter H key m) s ≡ macAfter H key (m ++ s)
-  unfolding either
+  fed-more : (key m s : List ℕ) → length m + length s ≤ limit → macFed (macAfter H key m) s ≡ macAfter H key (m ++ s)
   fed-more key m s l =
       let z : macAfter H key m .inner .len ≡ 64 + length m = mac-len-after H ok key m in
       let h : macAfter H key m .inner .len + length s ≤ innerLimit = omega arith in
       rw (le-leb (macAfter H key m .inner .len + length s) innerLimit h) (mac-taken-after H ok key m s l)
 
   -- pieces in any cutting are their joined bytes
-  pub mac-pieces : (key : List ℕ) (ps : List (List ℕ)) → length (joined ps) ≤ 1048576
+  pub mac-pieces : (key : List ℕ) (ps : List (List ℕ)) → length (joined ps) ≤ limit
       → feeds macFed (macAfter H key []) ps ≡ macAfter H key (joined ps)
-  mac-pieces key ps l = run (macAfter H key) macFed 1048576 (fed-more key) [] ps (omega arith)
+  mac-pieces key ps l = run (macAfter H key) macFed limit (fed-more key) [] ps (omega arith)
 
   module _ {A : Type 0} (f : List ℕ → A) {z v : A} (key m : List ℕ) {t : Res Unit} {k : ℕ} where
     -- the end is HMAC of the key and the message
-    pub mac-code : {st : MacState C} → st ≡ macAfter H key m → MacEndPromise H f z st t v k → length key ≤ 1048576 → length m ≤ 1048576
+    pub mac-code : {st : MacState C} → st ≡ macAfter H key m → MacEndPromise H f z st t v k → length key ≤ limit → length m ≤ limit
         → Answer true (f (hmacOf H key m)) z (hmacBlocksOf H key m) t v k
     mac-code {st} e p lk lm =
         let w : st .inner .len ≡ 64 + length m = ap (λ (x : MacState C). x .inner .len) e ∙ mac-len-after H ok key m in
@@ -74,7 +73,7 @@ module _ {C : Type 0} (H : Hash C) (ok : Sized H) where
         (ap (λ (x : MacState C). f (macDigest H x)) e ∙ ap f (mac-digest-after H ok key m)) (ap macCount e ∙ mac-count-after H ok key m lk lm)
 
     -- in one call
-    pub mac-whole : HmacPromise H f z key m t v k → length key ≤ 1048576 → length m ≤ 1048576
+    pub mac-whole : HmacPromise H f z key m t v k → length key ≤ limit → length m ≤ limit
         → Answer true (f (hmacOf H key m)) z (hmacBlocksOf H key m) t v k
     mac-whole p lk lm = rw (both (leb (length key) limit) (leb (length m) limit) (le-leb (length key) limit lk) (le-leb (length m) limit lm)) at p
 

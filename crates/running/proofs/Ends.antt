@@ -1,13 +1,12 @@
--- The running hash's end: SHA of all bytes that went in, with FIPS 180-4's number of blocks.
+-- The running hash's end: the hash of all bytes that went in, with FIPS 180-4's number of blocks.
 use Prim.Native.Nat.{ℕ, _+_, _-_, _*_, _/_, _^_, _≤_, _<_}
 use native.Mathlib.Omega.{arith}
-use mathlib.Core.Path.{_≡_, refl, sym, _∙_, ap, ap₂}
+use mathlib.Core.Path.{_≡_, refl, _∙_, ap}
 use mathlib.Core.List.{List, _++_}
 use lib.ListN.{length, drop, length-append, length-drop}
-use lib.Seq.{drop-append-le}
 use Rattle.running.specs.Hash.{Hash, plus, runs, zeros, pad, padded, blockCount, digest}
-use Rattle.running.specs.Running.{State, pending, closing, digestOf, countOf, after}
-use Rattle.running.proofs.Blocks.{runs-add, runs-front}
+use Rattle.running.specs.Running.{pending, closing, digestOf, countOf, after}
+use Rattle.running.proofs.Blocks.{runs-on}
 use Rattle.running.proofs.Takes.{waits}
 use Rattle.running.proofs.Closes.{length-pad}
 use Rattle.running.proofs.Sizes.{block-count}
@@ -19,10 +18,6 @@ module _ {C : Type 0} (H : Hash C) where
   pending-after m =
       waits H (runs (H .compress) (length m / 64) (H .first) m) (drop (length m / 64 * 64) m) (length m) (length m / 64)
       (rw (length-drop (length m / 64 * 64) m) (omega arith))
-
-  length-padded : (m : List ℕ) → length (padded m) ≡ length m + (9 + zeros (length m))
-  unfolding padded
-  length-padded m = length-append m (pad (length m)) ∙ rw (length-pad (length m))
 
   -- the end of a message's state: its blocks and the message's are the padded message's
   end-after : (m : List ℕ) → (digestOf H (after H m) ≡ digest H m) × (length m / 64 + length (closing (after H m)) / 64 ≡ blockCount m)
@@ -38,11 +33,11 @@ module _ {C : Type 0} (H : Hash C) where
       let nm : length (m ++ p) ≡ length m + (9 + zeros (length m)) = length-append m p ∙ rw (length-pad (length m)) in
       let n : q + length r / 64 ≡ length (m ++ p) / 64 = omega arith in
       let h : runs (H .compress) (length r / 64) (runs (H .compress) q (H .first) m) r ≡ runs (H .compress) (length (m ++ p) / 64) (H .first) (m ++ p) =
-      ap₂ (runs (H .compress) (length r / 64)) (sym (runs-front (H .compress) q (H .first) m p l)) (sym (drop-append-le (q * 64) m p l))
-      ∙ sym (runs-add (H .compress) q (length r / 64) (H .first) (m ++ p)) ∙ ap (λ (i : ℕ). runs (H .compress) i (H .first) (m ++ p)) n in
-      (ap (H .code) (ap (λ (x : List ℕ). runs (H .compress) (length x / 64) (runs (H .compress) q (H .first) m) x) e ∙ h), ap (λ (x : List ℕ). q + length x / 64) e ∙ n)
+      runs-on (H .compress) (H .first) m p q (length r / 64) l ∙ ap (λ (i : ℕ). runs (H .compress) i (H .first) (m ++ p)) n in
+      let k = ap (λ (x : List ℕ). runs (H .compress) (length x / 64) (runs (H .compress) q (H .first) m) x) e in
+      (ap (H .code) (k ∙ h), ap (λ (x : List ℕ). q + length x / 64) e ∙ n)
 
-  -- a message's state gives SHA-1 of the message
+  -- a message's state gives the hash of the message
   pub digest-after : (m : List ℕ) → digestOf H (after H m) ≡ digest H m
   digest-after m = end-after m .0
 

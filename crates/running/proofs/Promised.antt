@@ -4,27 +4,27 @@ use native.Mathlib.Omega.{arith}
 use lib.Dec.{leb}
 use borrow.Author.Tests.{leb-true, leb-false, le-leb, lt-leb}
 use mathlib.Core.Bool.{Bool, true, false, _&&_}
-use mathlib.Core.Path.{_≡_, refl, sym, _∙_, ap}
+use mathlib.Core.Path.{_≡_, refl, sym, _∙_}
 use Rattle.refusal.specs.Order.{Res, refuse, accept, need}
-use Rattle.running.specs.Promise.{either, Answer}
+use Rattle.running.specs.Promise.{Answer}
 
 module _ {A : Type 0} {x y v : A} {n k : ℕ} {t : Res Unit} where
   -- what a call that was taken says
   pub yes : Answer true x y n t v k → (t ≡ accept tt) × (v ≡ x) × (k ≡ n)
-  unfolding either need
+  unfolding need
   yes p = (p .answer, p .value, p .blocks)
 
   -- what a refused call says
   pub no : Answer false x y n t v k → (t ≡ refuse 37 0) × (v ≡ y) × (k ≡ 0)
-  unfolding either need
+  unfolding need
   no p = (p .answer, p .value, p .blocks)
 
   pub say-yes : {ok : Bool} → ok ≡ true → t ≡ accept tt → v ≡ x → k ≡ n → Answer ok x y n t v k
-  unfolding either need
+  unfolding need
   say-yes o a b c = rw o (record { answer = a; value = b; blocks = c })
 
   pub say-no : {ok : Bool} → ok ≡ false → t ≡ refuse 37 0 → v ≡ y → k ≡ 0 → Answer ok x y n t v k
-  unfolding either need
+  unfolding need
   say-no o a b c = rw o (record { answer = a; value = b; blocks = c })
 
 -- the same, said otherwise
@@ -34,14 +34,6 @@ module _ {A : Type 0} {ok : Bool} {x y v : A} {n k : ℕ} {t : Res Unit} where
 
   pub as-no : Answer false x y n t v k → ok ≡ false → (z w : A) (c : ℕ) → y ≡ w → Answer ok z w c t v k
   as-no p o z w c f = let q = no p in say-no o (q .0) (q .1 ∙ f) (q .2)
-
-  -- by another view of what stands beside the answer
-  pub seen : {B : Type 0} (f : A → B) → Answer ok x y n t v k → Answer ok (f x) (f y) n t (f v) k
-  seen f p = by ok p
-    where
-      by : (b : Bool) → Answer b x y n t v k → Answer b (f x) (f y) n t (f v) k
-      by true q = let r = yes q in say-yes refl (r .0) (ap f (r .1)) (r .2)
-      by false q = let r = no q in say-no refl (r .0) (ap f (r .1)) (r .2)
 
 -- no second answer
 pub only : {A : Type 0} {ok : Bool} {x y v w : A} {n k l : ℕ} {t u : Res Unit} → Answer ok x y n t v k → Answer ok x y n u w l

@@ -5,19 +5,20 @@ use mathlib.Core.Path.{_≡_, refl, sym, _∙_, ap, ap₂}
 use mathlib.Core.List.{List, [], _++_, append-assoc}
 use lib.ListN.{length, take, drop, replicate, length-append, length-drop, take-append-drop}
 use lib.Seq.{take-all, drop-drop, drop-append-le, length-take-le}
+use Rattle.octets.specs.Place.{filled}
 use Rattle.running.specs.Hash.{Hash, plus, runs}
 use Rattle.running.specs.Running.{State, room, pending, absorb, taken, after}
-use Rattle.running.proofs.Rooms.{length-room, room-back, room-full}
+use Rattle.running.proofs.Rooms.{room-back, room-full}
 use Rattle.running.proofs.Blocks.{runs-on}
 
 module _ {C : Type 0} (H : Hash C) where
-  pub length-pending : (st : State C) → length (st .buf) ≡ 64 → length (pending st) ≡ st .len % 64
+  length-pending : (st : State C) → length (st .buf) ≡ 64 → length (pending st) ≡ st .len % 64
   unfolding pending
   length-pending st e = length-take-le (st .len % 64) (st .buf) (omega arith)
 
   -- a state by its parts, q the number of whole blocks
-  pub absorb-is : (st : State C) (n q : ℕ) (l : List ℕ) (h : C) (b : List ℕ) (len k : ℕ) → length l / 64 ≡ q → h ≡ runs (H .compress) q (st .h) l
-      → b ≡ room (drop (q * 64) l) → len ≡ plus (st .len) n → k ≡ plus (st .blocks) q
+  absorb-is : (st : State C) (n q : ℕ) (l : List ℕ) (h : C) (b : List ℕ) (len k : ℕ) → length l / 64 ≡ q
+      → h ≡ runs (H .compress) q (st .h) l → b ≡ room (drop (q * 64) l) → len ≡ plus (st .len) n → k ≡ plus (st .blocks) q
       → _≡_ {A = State C} (record { h = h; buf = b; len = len; blocks = k }) (absorb H st n l)
   unfolding absorb
   absorb-is st n q l h b len k e eh eb el ek =
@@ -26,21 +27,21 @@ module _ {C : Type 0} (H : Hash C) where
       (λ i g. rw g (λ j. record { h = eh j; buf = eb j; len = el j; blocks = ek j })) in
       f (length l / 64) e
 
-  pub taken-kept : (st : State C) (s b : List ℕ) (len : ℕ) → length (st .buf) ≡ 64 → st .blocks < 2 ^ 32 → st .len % 64 + length s < 64
+  pub append-law : (st : State C) (s b : List ℕ) (len : ℕ) → length (st .buf) ≡ 64 → st .blocks < 2 ^ 32 → st .len % 64 + length s < 64
       → b ≡ room (take (st .len % 64) (st .buf) ++ s) → len ≡ plus (st .len) (length s)
       → _≡_ {A = State C} (record { h = st .h; buf = b; len = len; blocks = st .blocks }) (taken H st s)
   unfolding taken pending runs
-  taken-kept st s b len e k l eb el =
+  append-law st s b len e k l eb el =
       let n : length (take (st .len % 64) (st .buf) ++ s) ≡ st .len % 64 + length s =
       length-append (take (st .len % 64) (st .buf)) s ∙ rw (length-take-le (st .len % 64) (st .buf) (omega arith)) in
       absorb-is st (length s) 0 (take (st .len % 64) (st .buf) ++ s) (st .h) b len (st .blocks) (rw n (omega arith)) refl eb el (omega arith)
 
-  pub taken-topped : (st : State C) (s b : List ℕ) (h : C) (len k : ℕ) → length (st .buf) ≡ 64 → st .len % 64 + length s ≡ 64
+  pub complete-block-law : (st : State C) (s b : List ℕ) (h : C) (len k : ℕ) → length (st .buf) ≡ 64 → st .len % 64 + length s ≡ 64
       → b ≡ room (take (st .len % 64) (st .buf) ++ s) → h ≡ runs (H .compress) (length b / 64) (st .h) b → len ≡ plus (st .len) (length s)
       → k ≡ plus (st .blocks) 1
       → _≡_ {A = State C} (record { h = h; buf = replicate 64 0; len = len; blocks = k }) (taken H st s)
-  unfolding taken pending room
-  taken-topped st s b h len k e l eb eh el ek =
+  unfolding taken pending filled
+  complete-block-law st s b h len k e l eb eh el ek =
       let p : List ℕ = take (st .len % 64) (st .buf) ++ s in
       let n : length p ≡ 64 =
       length-append (take (st .len % 64) (st .buf)) s ∙ rw (length-take-le (st .len % 64) (st .buf) (omega arith)) l in
@@ -52,12 +53,12 @@ module _ {C : Type 0} (H : Hash C) where
       drop-all : (p : List ℕ) → length p ≡ 64 → drop 64 p ≡ []
       drop-all p e = ap (λ (i : ℕ). drop i p) (sym e) ∙ lib.Seq.drop-length p
 
-  pub taken-swept : (st : State C) (s b : List ℕ) (h : C) (len k : ℕ) → st .len % 64 ≡ 0
+  pub absorb-blocks-law : (st : State C) (s b : List ℕ) (h : C) (len k : ℕ) → st .len % 64 ≡ 0
       → b ≡ room (take 0 (replicate 64 0) ++ take (length s - length s / 64 * 64) (drop (length s / 64 * 64) s))
       → h ≡ runs (H .compress) (length s / 64) (st .h) s → len ≡ plus (st .len) (length s) → k ≡ plus (st .blocks) (length s / 64)
       → _≡_ {A = State C} (record { h = h; buf = b; len = len; blocks = k }) (taken H st s)
   unfolding taken pending
-  taken-swept st s b h len k z eb eh el ek =
+  absorb-blocks-law st s b h len k z eb eh el ek =
       let t : take (length s - length s / 64 * 64) (drop (length s / 64 * 64) s) ≡ drop (length s / 64 * 64) s =
       take-all (length s - length s / 64 * 64) (drop (length s / 64 * 64) s) (rw (length-drop (length s / 64 * 64) s) (omega arith)) in
       rw z (absorb-is st (length s) (length s / 64) s h b len k refl eh (eb ∙ ap room t) el ek)
@@ -68,7 +69,7 @@ module _ {C : Type 0} (H : Hash C) where
   waits h p len k e = rw e (room-back p)
 
   -- what waits after a piece
-  pub pending-taken : (st : State C) (s : List ℕ) → length (st .buf) ≡ 64
+  pending-taken : (st : State C) (s : List ℕ) → length (st .buf) ≡ 64
       → pending (taken H st s) ≡ drop (length (pending st ++ s) / 64 * 64) (pending st ++ s)
   unfolding taken absorb
   pending-taken st s e =
@@ -77,12 +78,6 @@ module _ {C : Type 0} (H : Hash C) where
       let m : plus (st .len) (length s) % 64 ≡ length (drop (length l / 64 * 64) l) =
       rw (length-drop (length l / 64 * 64) l) (omega arith) in
       waits (runs (H .compress) (length l / 64) (st .h) l) (drop (length l / 64 * 64) l) (plus (st .len) (length s)) (plus (st .blocks) (length l / 64)) m
-
-  pub length-taken : (st : State C) (s : List ℕ) → length (taken H st s .buf) ≡ 64
-  unfolding taken absorb
-  length-taken st s =
-      length-room (drop (length (pending st ++ s) / 64 * 64) (pending st ++ s))
-      (rw (length-drop (length (pending st ++ s) / 64 * 64) (pending st ++ s)) (omega arith))
 
   -- two absorptions, the second with what the first left waiting
   absorb-absorb : (st : State C) (n k : ℕ) (l b : List ℕ)
@@ -103,12 +98,12 @@ module _ {C : Type 0} (H : Hash C) where
       absorb-is st (n + k) (q + j) (l ++ b) (runs (H .compress) j (runs (H .compress) q (st .h) l) r) (room (drop (j * 64) r)) (plus (plus (st .len) n) k)
       (plus (plus (st .blocks) q) j) e (runs-on (H .compress) (st .h) l b q j m) (ap room d) (omega arith) (omega arith)
 
-  pub taken-is : (st : State C) (s : List ℕ) → taken H st s ≡ absorb H st (length s) (pending st ++ s)
+  taken-is : (st : State C) (s : List ℕ) → taken H st s ≡ absorb H st (length s) (pending st ++ s)
   unfolding taken
   taken-is st s = refl
 
   -- two pieces are their joined bytes
-  pub taken-taken : (st : State C) (a b : List ℕ) → length (st .buf) ≡ 64 → taken H (taken H st a) b ≡ taken H st (a ++ b)
+  taken-taken : (st : State C) (a b : List ℕ) → length (st .buf) ≡ 64 → taken H (taken H st a) b ≡ taken H st (a ++ b)
   taken-taken st a b e =
       let l : List ℕ = pending st ++ a in
       taken-is (taken H st a) b
@@ -119,9 +114,9 @@ module _ {C : Type 0} (H : Hash C) where
       ∙ sym (taken-is st (a ++ b))
 
   -- the last way of the code: the block that waits is filled up, the rest follows
-  pub taken-both : (st x r : State C) (s : List ℕ) (n : ℕ) → length (st .buf) ≡ 64 → x ≡ taken H st (take n s)
+  pub absorb-law : (st x r : State C) (s : List ℕ) (n : ℕ) → length (st .buf) ≡ 64 → x ≡ taken H st (take n s)
       → r ≡ taken H x (take (length s - n) (drop n s)) → r ≡ taken H st s
-  taken-both st x r s n e f g =
+  absorb-law st x r s n e f g =
       let t : take (length s - n) (drop n s) ≡ drop n s = take-all (length s - n) (drop n s) (rw (length-drop n s) (omega arith)) in
       g ∙ ap₂ (taken H) f t ∙ taken-taken st (take n s) (drop n s) e ∙ ap (taken H st) (take-append-drop n s)
 
@@ -134,7 +129,7 @@ module _ {C : Type 0} (H : Hash C) where
       rw (e, f)
 
   first-length : length (after H [] .buf) ≡ 64
-  unfolding after room
+  unfolding after filled
   first-length = refl
 
   -- a piece more
@@ -145,6 +140,6 @@ module _ {C : Type 0} (H : Hash C) where
       ap (λ (x : State C). taken H x s) (sym (after-taken m lm)) ∙ taken-taken (after H []) m s first-length ∙ after-taken (m ++ s) ls
 
   -- a state that was filled up has nothing waiting
-  pub taken-fill : (st x : State C) (s : List ℕ) → st .len % 64 + length s ≡ 64 → x ≡ taken H st s → x .len % 64 ≡ 0
+  pub complete-none-waits : (st x : State C) (s : List ℕ) → st .len % 64 + length s ≡ 64 → x ≡ taken H st s → x .len % 64 ≡ 0
   unfolding taken absorb
-  taken-fill st x s e f = ap (λ (y : State C). y .len % 64) f ∙ omega arith
+  complete-none-waits st x s e f = ap (λ (y : State C). y .len % 64) f ∙ omega arith

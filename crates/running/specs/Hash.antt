@@ -7,7 +7,7 @@ use lib.ListN.{length, take, drop, replicate}
 use Rattle.octets.specs.Number.{be}
 use Rattle.octets.specs.Bytes.{Bytes}
 
--- 2.2.2: addition modulo 2^32
+-- 2.2.2: addition modulo 2^32; a state's counts of bytes and of blocks wrap so, too
 abbrev pub plus : ℕ → ℕ → ℕ
 plus a b = (a + b) % 2 ^ 32
 

@@ -21,9 +21,18 @@ unfoldable pub macCount : {C : Type 0} → MacState C → ℕ
 macCount st = plus (plus (st .blocks) (countOf (st .inner))) 1
 
 module _ {C : Type 0} (H : Hash C) where
-  -- HMAC over the hash, and its count
+  -- HMAC over the hash, its key's block, what its inner hash is given, and its counts
   abbrev pub hmacOf : List ℕ → List ℕ → List ℕ
   hmacOf k m = hmac (digest H) 64 k m
+
+  abbrev pub keyBlockOf : List ℕ → List ℕ
+  keyBlockOf k = keyBlock (digest H) 64 k
+
+  abbrev pub innerOf : List ℕ → List ℕ → List ℕ
+  innerOf k m = inner (digest H) 64 k m
+
+  abbrev pub keyBlocksOf : List ℕ → ℕ
+  keyBlocksOf k = keyCount (digest H) 64 blockCount k
 
   abbrev pub hmacBlocksOf : List ℕ → List ℕ → ℕ
   hmacBlocksOf k m = hmacCount (digest H) 64 blockCount k m
@@ -32,9 +41,9 @@ module _ {C : Type 0} (H : Hash C) where
   unfoldable pub macAfter : List ℕ → List ℕ → MacState C
   macAfter k m =
       record {
-        inner = after H (inner (digest H) 64 k m);
-        outer = runs (H .compress) 1 (H .first) (xored 0x5c (keyBlock (digest H) 64 k));
-        blocks = plus (keyCount (digest H) 64 blockCount k) 1;
+        inner = after H (innerOf k m);
+        outer = runs (H .compress) 1 (H .first) (xored 0x5c (keyBlockOf k));
+        blocks = plus (keyBlocksOf k) 1;
       }
 
   -- a state after the piece s

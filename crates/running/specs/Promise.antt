@@ -1,7 +1,7 @@
 -- The answers of a hash and of HMAC (docs/RULES.md, 3.3 to 3.5): done, or refusal 37, which tells 0 blocks. One promise for a
 -- state and for a code: A is what stands beside the answer.
 use Prim.Native.Nat.{ℕ, _+_}
-use mathlib.Core.Bool.{Bool, true, false, _&&_}
+use mathlib.Core.Bool.{Bool, cond, _&&_}
 use mathlib.Core.List.{List, []}
 use mathlib.Core.Path.{_≡_}
 use lib.Dec.{leb}
@@ -16,21 +16,16 @@ abbrev pub limit : ℕ
 limit = 1048576
 
 abbrev pub innerLimit : ℕ
-innerLimit = 1048640
-
--- x where the bytes are few enough, else y
-unfoldable pub either : {A : Type 0} → Bool → A → A → A
-either true x y = x
-either false x y = y
+innerLimit = limit + 64
 
 -- what is told, what is given and how many blocks: of the call where it is taken, else 37, what stays, and 0
 pub record Answer {A : Type 0} (ok : Bool) (next st : A) (n : ℕ) (told : Res Unit) (given : A) (k : ℕ) : Type 0 where
   pub answer : told ≡ need ok 37 0 (accept tt)
-  pub value : given ≡ either ok next st
-  pub blocks : k ≡ either ok n 0
+  pub value : given ≡ cond ok next st
+  pub blocks : k ≡ cond ok n 0
 
--- the calls; t is what is told, v what is given, k the number of blocks; f st and f d are how a state st and a code d are handed
--- out, and z what stands where there is no code
+-- the calls; t is what is told, v what is given, k the number of blocks; f st and f d are the state st and the code d as they are
+-- handed out, for a hash that hands them out in another form than State and the code's bytes; z stands where there is no code
 module _ {C : Type 0} (H : Hash C) where
   module _ {A : Type 0} (f : State C → A) where
     abbrev pub FedPromise : State C → List ℕ → Res Unit → A → ℕ → Type 0
@@ -47,8 +42,8 @@ module _ {C : Type 0} (H : Hash C) where
     abbrev pub EndPromise : State C → Res Unit → A → ℕ → Type 0
     EndPromise st t v k = Answer (leb (st .len) limit) (f (digestOf H st)) z (countOf st) t v k
 
-    abbrev pub HashedPromise : List ℕ → Res Unit → A → ℕ → Type 0
-    HashedPromise m t v k = Answer (leb (length m) limit) (f (digest H m)) z (blockCount m) t v k
+    abbrev pub HashPromise : List ℕ → Res Unit → A → ℕ → Type 0
+    HashPromise m t v k = Answer (leb (length m) limit) (f (digest H m)) z (blockCount m) t v k
 
     abbrev pub MacEndPromise : MacState C → Res Unit → A → ℕ → Type 0
     MacEndPromise st t v k = Answer (leb (st .inner .len) innerLimit) (f (macDigest H st)) z (macCount st) t v k

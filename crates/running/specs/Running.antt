@@ -1,8 +1,9 @@
 -- The running hash (docs/RULES.md, 3.2 and 3.3): what each call makes of a state, any state, and the state that the bytes of a
 -- message leave. Blocks and padding are those of FIPS 180-4, sections 5.1.1, 6.1.2 and 6.2.2.
-use Prim.Native.Nat.{ℕ, _+_, _-_, _*_, _/_, _%_}
+use Prim.Native.Nat.{ℕ, _*_, _/_, _%_}
 use mathlib.Core.List.{List, _++_}
-use lib.ListN.{length, take, drop, replicate}
+use lib.ListN.{length, take, drop}
+use Rattle.octets.specs.Place.{filled}
 use Rattle.running.specs.Hash.{Hash, plus, runs, pad}
 
 -- the chaining value, the buffer of 64 bytes, the bytes given, the blocks compressed
@@ -13,8 +14,8 @@ pub record State (C : Type 0) : Type 0 where
   pub blocks : ℕ
 
 -- a buffer of 64 bytes with l at its front, zeros behind
-unfoldable pub room : List ℕ → List ℕ
-room l = l ++ replicate (64 - length l) 0
+abbrev pub room : List ℕ → List ℕ
+room l = filled 64 l
 
 -- the bytes that wait for their block to be full
 unfoldable pub pending : {C : Type 0} → State C → List ℕ

@@ -2,19 +2,13 @@
 use Prim.Native.Nat.{ℕ}
 use mathlib.Core.Bool.{Bool}
 use mathlib.Core.List.{List}
-use mathlib.Core.Path.{_≡_, refl, sym, _∙_}
-use Rattle.refusal.specs.Order.{refuse, accept}
-use Rattle.refusal.specs.Table.{numberOf, valueOf}
-use Rattle.refusal.proofs.Order.{refuse≢accept}
-use Rattle.refusal.proofs.Numbers.{told-one}
+use mathlib.Core.Path.{_≡_, sym, _∙_}
+use Rattle.refusal.proofs.Told.{outcome-one}
 use Rattle.sha1_block.specs.declared.Chain.{Chain}
-use Rattle.running.specs.Running.{State}
 use Rattle.running.specs.Mac.{MacState}
 use Rattle.running.proofs.Promised.{only}
 use Rattle.sha1.specs.View.{stateOf, macStateOf}
-use Rattle.sha1.specs.Answers.{told, FedPromise, MacPromise, HashedPromise}
-use Rattle.sha1.specs.declared.Outcome.{Outcome}
-use Rattle.sha1.specs.declared.Outcome.the-variants.{Done, Refused}
+use Rattle.sha1.specs.Answers.{FedPromise, MacPromise, HashedPromise}
 use Rattle.sha1.specs.declared.Sha1.{Sha1}
 use Rattle.sha1.specs.declared.Fed.{Fed}
 use Rattle.sha1.specs.declared.Hashed.{Hashed}
@@ -29,17 +23,6 @@ use Rattle.sha1.proofs.mac.Sha1Hmac.feed.Reads as mac-feed-reads
 use Rattle.sha1.proofs.mac.Sha1Hmac.finalize.Reads as mac-finalize-reads
 use Rattle.sha1.proofs.mac.hmac.Reads as hmac-reads
 
--- an outcome is known by what is told of it
-outcome-one : (a b : Outcome) → told a ≡ told b → a ≡ b
-outcome-one Done Done e = refl
-outcome-one Done (Refused r) e = absurd (refuse≢accept (numberOf r) (valueOf r) tt (sym e))
-outcome-one (Refused r) Done e = absurd (refuse≢accept (numberOf r) (valueOf r) tt e)
-outcome-one (Refused r) (Refused q) e =
-    let n : numberOf r ≡ numberOf q = cc in
-    let v : valueOf r ≡ valueOf q = cc in
-    let h : r ≡ q = told-one r q n v in
-    λ i. Refused (h i)
-
 state-one : (a b : Sha1) → stateOf a ≡ stateOf b → a ≡ b
 state-one a b e = λ i. record { h = e i .h; buf = e i .buf; len = e i .len; blocks = e i .blocks }
 
@@ -48,8 +31,8 @@ mac-state-one a b e =
     let f : a .inner ≡ b .inner = state-one (a .inner) (b .inner) (λ i. e i .inner) in
     λ i. record { inner = f i; outer = e i .outer; blocks = e i .blocks }
 
-fed-one : (ok : Bool) (x y : State Chain) (a b : Fed) → FedPromise ok x y a → FedPromise ok x y b → a ≡ b
-fed-one ok x y a b p q =
+fed-one : (st : Sha1) (s : List ℕ) (a b : Fed) → FedPromise st s a → FedPromise st s b → a ≡ b
+fed-one st s a b p q =
     let o = only p q in
     let e : a .answer ≡ b .answer = outcome-one (a .answer) (b .answer) (o .0) in
     let f : a .hash ≡ b .hash = state-one (a .hash) (b .hash) (o .1) in
@@ -72,7 +55,7 @@ pub new-only : (κs : _) (args : _) (a b : _) (s t : _) → new-reads.Post κs a
 new-only κs args a b s t p q = state-one a b (p ∙ sym q)
 
 pub update-only : (κs : _) (args : _) (a b : _) (s t : _) → update-reads.Post κs args a s → update-reads.Post κs args b t → a ≡ b
-update-only κs args a b s t p q = fed-one _ _ _ a b p q
+update-only κs args a b s t p q = fed-one _ _ a b p q
 
 pub finalize-only : (κs : _) (args : _) (a b : _) (s t : _) → finalize-reads.Post κs args a s → finalize-reads.Post κs args b t → a ≡ b
 finalize-only κs args a b s t p q = hashed-one _ _ _ a b p q

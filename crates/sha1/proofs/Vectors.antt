@@ -2,6 +2,7 @@
 -- standard's examples give) and case 2 of RFC 2202, section 3. No code is involved.
 use mathlib.Core.Path.{_≡_, refl}
 use mathlib.Core.List.{[], _∷_}
+use Rattle.octets.specs.Place.{filled}
 use Rattle.hmac.specs.Hmac.{xored, keyBlock, inner, outer, hmac}
 use Rattle.sha1_block.specs.Block.{fT, kT, words, more, schedule, round, rounds, added, compress, sha1Hash}
 use Rattle.running.specs.Hash.{runs, pad, padded, blockCount, digest}
@@ -17,5 +18,5 @@ pub case-2 : hmacSha1 (0x4a ∷ 0x65 ∷ 0x66 ∷ 0x65 ∷ [])
     (0x77 ∷ 0x68 ∷ 0x61 ∷ 0x74 ∷ 0x20 ∷ 0x64 ∷ 0x6f ∷ 0x20 ∷ 0x79 ∷ 0x61 ∷ 0x20 ∷ 0x77 ∷ 0x61 ∷ 0x6e ∷ 0x74 ∷ 0x20 ∷ 0x66 ∷ 0x6f ∷ 0x72 ∷ 0x20 ∷ 0x6e ∷ 0x6f ∷
     0x74 ∷ 0x68 ∷ 0x69 ∷ 0x6e ∷ 0x67 ∷ 0x3f ∷ [])
     ≡ 0xef ∷ 0xfc ∷ 0xdf ∷ 0x6a ∷ 0xe5 ∷ 0xeb ∷ 0x2f ∷ 0xa2 ∷ 0xd2 ∷ 0x74 ∷ 0x16 ∷ 0xd5 ∷ 0xf1 ∷ 0x84 ∷ 0xdf ∷ 0x9c ∷ 0x25 ∷ 0x9a ∷ 0x7c ∷ 0x79 ∷ []
-unfolding fT kT words more schedule round rounds added compress sha1Hash runs pad padded blockCount digest xored keyBlock inner outer hmac
+unfolding fT kT words more schedule round rounds added compress sha1Hash runs pad padded blockCount digest xored filled keyBlock inner outer hmac
 case-2 = refl

@@ -4,16 +4,17 @@ ghost use mathlib.Core.Bool.{true, false};
 ghost use mathlib.Core.List.{[], _++_};
 ghost use Prim.Native.Nat.{_+_, _*_, _%_, _≤_, _<_};
 ghost use lib.ListN.{length, take};
-ghost use lib.Seq.{paste, sets};
 ghost use lib.Dec.{leb};
 ghost use Rattle.octets.specs.Number.{be};
+ghost use Rattle.octets.specs.Place.{pasted};
 ghost use Rattle.sha1_block.specs.Block.{sha1Hash};
-ghost use Rattle.running.specs.Hash.{blockCount};
 ghost use Rattle.running.specs.Running.{room, taken, digestOf, countOf, after};
-ghost use Rattle.running.specs.Promise.{limit, innerLimit};
-ghost use Rattle.sha1.specs.Hash.{sha1};
+ghost use Rattle.running.specs.Promise.{innerLimit};
 ghost use Rattle.sha1.specs.View.{stateOf};
-ghost use Rattle.sha1.specs.Answers.{FedPromise, HashedPromise};
+ghost use Rattle.sha1.specs.Answers.{FedPromise, EndPromise, HashPromise, HashedPromise};
+use octets::be8;
+use octets::put;
+use refusal::Outcome;
 use refusal::Refusal;
 use sha1_block::Chain;
 use sha1_block::blocks;
@@ -28,12 +29,7 @@ pub use mac::Sha1Hmac;
 pub use mac::hmac;
 
 // More bytes than this, all pieces together, are refused.
-const LIMIT: usize = 1048576;
-
-pub enum Outcome {
-    Done,
-    Refused(Refusal),
-}
+pub const LIMIT: usize = 1048576;
 
 // The blocks compressed so far are counted in `blocks`. The first `len % 64` bytes of `buf` wait; the others are zero.
 pub struct Sha1 {
@@ -56,48 +52,28 @@ pub struct Hashed {
     pub blocks: u32,
 }
 
-// d with s from `at` on.
-fn copied(d: [u8; 64], at: usize, s: &[u8]) -> [u8; 64]
-    requires { ⌜ at + length (now s) ≤ 64 ⌝ }
-    ensures { λ r. ⌜ r ≡ paste d at (now (s .entry)) (length (now (s .entry))) ⌝ }
-{
-    let mut b = d;
-    let mut i: usize = 0;
-    while i < s.len() {
-        b[at + i] = s[i];
-        i += 1;
-    }
-    b
-}
-
 // The first n bytes of `buf`, then s, then zeros.
-fn filled(buf: [u8; 64], n: usize, s: &[u8]) -> [u8; 64]
+fn fill_block(buf: [u8; 64], n: usize, s: &[u8]) -> [u8; 64]
     requires { ⌜ n + length (now s) ≤ 64 ⌝ }
     ensures { λ r. ⌜ r ≡ room (take n buf ++ now (s .entry)) ⌝ }
 {
-    let front = copied([0u8; 64], 0, &buf[..n]);
-    copied(front, n, s)
+    let mut b = [0u8; 64];
+    put(&mut b, 0, &buf[..n]);
+    put(&mut b, n, s);
+    b
 }
 
 // b with the number of bits of `len` bytes in its last eight.
-fn with_length(b: [u8; 64], len: u32) -> [u8; 64]
-    ensures { λ r. ⌜ r ≡ sets b 56 (be 8 (len * 8)) ⌝ }
+fn put_length(b: [u8; 64], len: u32) -> [u8; 64]
+    ensures { λ r. ⌜ r ≡ pasted b 56 (be 8 (len * 8)) ⌝ }
 {
-    let n = (len as u64) * 8;
     let mut r = b;
-    r[56] = (n / 256 / 256 / 256 / 256 / 256 / 256 / 256 % 256) as u8;
-    r[57] = (n / 256 / 256 / 256 / 256 / 256 / 256 % 256) as u8;
-    r[58] = (n / 256 / 256 / 256 / 256 / 256 % 256) as u8;
-    r[59] = (n / 256 / 256 / 256 / 256 % 256) as u8;
-    r[60] = (n / 256 / 256 / 256 % 256) as u8;
-    r[61] = (n / 256 / 256 % 256) as u8;
-    r[62] = (n / 256 % 256) as u8;
-    r[63] = (n % 256) as u8;
+    put(&mut r, 56, &be8((len as u64) * 8));
     r
 }
 
 // Whether n bytes more than `len` are at most `most`.
-fn within(len: u32, n: usize, most: usize) -> bool
+fn fits_limit(len: u32, n: usize, most: usize) -> bool
     ensures { λ r. ⌜ r ≡ leb (len + n) most ⌝ }
 {
     if most < n {
@@ -106,7 +82,7 @@ fn within(len: u32, n: usize, most: usize) -> bool
     (len as usize) <= most - n
 }
 
-fn done(h: Chain, blocks: u32) -> Hashed
+fn give_code(h: Chain, blocks: u32) -> Hashed
     ensures { λ r. ⌜ HashedPromise true (sha1Hash .code h) blocks r ⌝ }
 {
     Hashed {
@@ -116,7 +92,7 @@ fn done(h: Chain, blocks: u32) -> Hashed
     }
 }
 
-fn refused() -> Hashed
+fn refuse_code() -> Hashed
     ensures { λ r. ⌜ HashedPromise false [] 0 r ⌝ }
 {
     Hashed {
@@ -141,16 +117,16 @@ impl Sha1 {
 
     // The hash after s, or refusal 37 and the hash as it was.
     pub fn update(self, s: &[u8]) -> Fed
-        ensures { λ r. ⌜ FedPromise (leb (self .len + length (now (s .entry))) limit) (taken sha1Hash (stateOf self) (now (s .entry))) (stateOf self) r ⌝ }
+        ensures { λ r. ⌜ FedPromise self (now (s .entry)) r ⌝ }
     {
-        if !within(self.len, s.len(), LIMIT) {
+        if !fits_limit(self.len, s.len(), LIMIT) {
             return Fed {
                 answer: Outcome::Refused(Refusal::TooLongToHash),
                 hash: self,
                 blocks: 0,
             };
         }
-        let next = self.with(s);
+        let next = self.absorb(s);
         Fed {
             answer: Outcome::Done,
             hash: next,
@@ -160,21 +136,21 @@ impl Sha1 {
 
     // The hash's twenty bytes; 37 for a state that says it was given too much.
     pub fn finalize(self) -> Hashed
-        ensures { λ r. ⌜ HashedPromise (leb (self .len) limit) (digestOf sha1Hash (stateOf self)) (countOf (stateOf self)) r ⌝ }
+        ensures { λ r. ⌜ EndPromise self r ⌝ }
     {
         if LIMIT < self.len as usize {
-            return refused();
+            return refuse_code();
         }
-        self.closed()
+        self.close()
     }
 
     // s behind bytes that wait, where no block becomes full.
-    fn kept(self, s: &[u8]) -> Sha1
+    fn append(self, s: &[u8]) -> Sha1
         requires { ⌜ self .len % 64 + length (now s) < 64 ⌝ }
         ensures { λ r. ⌜ stateOf r ≡ taken sha1Hash (stateOf self) (now (s .entry)) ⌝ }
     {
         let buf = self.buf;
-        let b = filled(buf, (self.len % 64) as usize, s);
+        let b = fill_block(buf, (self.len % 64) as usize, s);
         let h = self.h;
         Sha1 {
             h,
@@ -185,12 +161,12 @@ impl Sha1 {
     }
 
     // s behind bytes that wait, where the block becomes full.
-    fn topped(self, s: &[u8]) -> Sha1
+    fn complete_block(self, s: &[u8]) -> Sha1
         requires { ⌜ self .len % 64 + length (now s) ≡ 64 ⌝ }
         ensures { λ r. ⌜ stateOf r ≡ taken sha1Hash (stateOf self) (now (s .entry)) ⌝ }
     {
         let buf = self.buf;
-        let b = filled(buf, (self.len % 64) as usize, s);
+        let b = fill_block(buf, (self.len % 64) as usize, s);
         Sha1 {
             h: blocks(self.h, &b),
             buf: [0u8; 64],
@@ -200,12 +176,12 @@ impl Sha1 {
     }
 
     // s where no byte waits: its blocks are compressed where they lie, and only the rest is copied.
-    fn swept(self, s: &[u8]) -> Sha1
+    fn absorb_blocks(self, s: &[u8]) -> Sha1
         requires { ⌜ (self .len % 64 ≡ 0) × (length (now s) ≤ innerLimit) ⌝ }
         ensures { λ r. ⌜ stateOf r ≡ taken sha1Hash (stateOf self) (now (s .entry)) ⌝ }
     {
         let n = s.len() / 64;
-        let b = filled([0u8; 64], 0, &s[n * 64..]);
+        let b = fill_block([0u8; 64], 0, &s[n * 64..]);
         Sha1 {
             h: blocks(self.h, s),
             buf: b,
@@ -215,44 +191,44 @@ impl Sha1 {
     }
 
     // The hash after s.
-    fn with(self, s: &[u8]) -> Sha1
+    fn absorb(self, s: &[u8]) -> Sha1
         requires { ⌜ length (now s) ≤ innerLimit ⌝ }
         ensures { λ r. ⌜ stateOf r ≡ taken sha1Hash (stateOf self) (now (s .entry)) ⌝ }
     {
         let fill = (self.len % 64) as usize;
         if fill == 0 {
-            return self.swept(s);
+            return self.absorb_blocks(s);
         }
         let free = 64 - fill;
         if s.len() < free {
-            return self.kept(s);
+            return self.append(s);
         }
-        self.topped(&s[..free]).swept(&s[free..])
+        self.complete_block(&s[..free]).absorb_blocks(&s[free..])
     }
 
     // The hash's end: padding and length go in.
-    fn closed(self) -> Hashed
+    fn close(self) -> Hashed
         ensures { λ r. ⌜ HashedPromise true (digestOf sha1Hash (stateOf self)) (countOf (stateOf self)) r ⌝ }
     {
         let fill = (self.len % 64) as usize;
         let buf = self.buf;
-        let marked = filled(buf, fill, &[0x80]);
+        let marked = fill_block(buf, fill, &[0x80]);
         if fill < 56 {
-            let last = with_length(marked, self.len);
-            return done(blocks(self.h, &last), wrapping_add_u32(self.blocks, 1));
+            let last = put_length(marked, self.len);
+            return give_code(blocks(self.h, &last), wrapping_add_u32(self.blocks, 1));
         }
         let h = blocks(self.h, &marked);
-        let last = with_length([0u8; 64], self.len);
-        done(blocks(h, &last), wrapping_add_u32(self.blocks, 2))
+        let last = put_length([0u8; 64], self.len);
+        give_code(blocks(h, &last), wrapping_add_u32(self.blocks, 2))
     }
 }
 
 // SHA-1 of s in one call.
 pub fn hash(s: &[u8]) -> Hashed
-    ensures { λ r. ⌜ HashedPromise (leb (length (now (s .entry))) limit) (sha1 (now (s .entry))) (blockCount (now (s .entry))) r ⌝ }
+    ensures { λ r. ⌜ HashPromise (now (s .entry)) r ⌝ }
 {
     if LIMIT < s.len() {
-        return refused();
+        return refuse_code();
     }
-    Sha1::new().with(s).closed()
+    Sha1::new().absorb(s).close()
 }

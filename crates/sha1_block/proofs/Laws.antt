@@ -1,11 +1,11 @@
--- One law for a turn of each loop of the block function, and the laws of runs of blocks.
-use Prim.Native.Nat.{ℕ, zero, suc, _+_, _-_, _*_, _/_, _%_, _≤_, _<_}
+-- One law for a turn of each loop of the block function, and what a running hash asks of SHA-1.
+use Prim.Native.Nat.{ℕ, suc, _+_, _-_, _*_, _≤_, _<_}
 use native.Mathlib.Omega.{arith}
 use native.Mathlib.Numerals.{add-one}
-use mathlib.Core.Path.{_≡_, refl, sym, _∙_, ap, ap₂}
+use mathlib.Core.Path.{_≡_, refl, _∙_}
 use mathlib.Core.List.{List, _++_}
-use lib.ListN.{length, getD, take, drop, set, length-drop}
-use lib.Seq.{take-suc-set, getD-take, drop-drop, take-append-le, drop-append-le}
+use lib.ListN.{length, getD, take, set}
+use lib.Seq.{take-suc-set, getD-take}
 use Rattle.octets.specs.Bytes.{Bytes}
 use Rattle.octets.specs.Number.{be}
 use Rattle.octets.proofs.Bytes.{bytes-append}

@@ -1,26 +1,22 @@
 -- SHA-1 of whole blocks: FIPS 180-4, sections 4.1.1, 4.2.1, 5.3.1 and 6.1.2.
 use Prim.Native.Nat.{ℕ, zero, suc, _+_, _-_, _*_}
-use mathlib.Core.Bool.{Bool, true, false}
+use mathlib.Core.Bool.{cond}
 use mathlib.Core.List.{List, [], _∷_, _++_}
 use lib.ListN.{getD}
 use lib.Bits.{bitXor}
 use lib.Dec.{ltb}
 use Rattle.octets.specs.Number.{be}
-use Rattle.running.specs.Hash.{Hash}
-use Rattle.sha1_block.specs.Word.{plus, rotl, word, ch, parity, maj}
+use Rattle.running.specs.Hash.{Hash, plus}
+use Rattle.sha1_block.specs.Word.{rotl, word, ch, parity, maj}
 use Rattle.sha1_block.specs.declared.Chain.{Chain}
-
-abbrev pub pick : Bool → ℕ → ℕ → ℕ
-pick true x y = x
-pick false x y = y
 
 -- 4.1.1: f_t
 unfoldable pub fT : ℕ → ℕ → ℕ → ℕ → ℕ
-fT t x y z = pick (ltb t 20) (ch x y z) (pick (ltb t 40) (parity x y z) (pick (ltb t 60) (maj x y z) (parity x y z)))
+fT t x y z = cond (ltb t 20) (ch x y z) (cond (ltb t 40) (parity x y z) (cond (ltb t 60) (maj x y z) (parity x y z)))
 
 -- 4.2.1: K_t
 unfoldable pub kT : ℕ → ℕ
-kT t = pick (ltb t 20) 0x5a827999 (pick (ltb t 40) 0x6ed9eba1 (pick (ltb t 60) 0x8f1bbcdc 0xca62c1d6))
+kT t = cond (ltb t 20) 0x5a827999 (cond (ltb t 40) 0x6ed9eba1 (cond (ltb t 60) 0x8f1bbcdc 0xca62c1d6))
 
 -- 5.3.1: the first chaining value
 abbrev pub first : Chain

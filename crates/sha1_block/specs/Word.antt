@@ -1,12 +1,8 @@
--- Words of 32 bits: FIPS 180-4, sections 2.2.2 and 3.2 (operations), 3.1 (a word as four bytes), 4.1.1 (functions).
+-- Words of 32 bits: FIPS 180-4, sections 3.2 (operations), 3.1 (a word as four bytes), 4.1.1 (functions).
 use Prim.Native.Nat.{ℕ, _+_, _-_, _*_, _/_, _%_, _^_}
 use mathlib.Core.List.{List}
 use lib.ListN.{getD}
 use lib.Bits.{bitAnd, bitOr, bitXor}
-
--- 2.2.2: addition modulo 2^32
-abbrev pub plus : ℕ → ℕ → ℕ
-plus a b = (a + b) % 2 ^ 32
 
 -- 3.2, item 5: ROTL^n(x) = (x << n) or (x >> 32 - n)
 abbrev pub rotl : ℕ → ℕ → ℕ

@@ -6,6 +6,7 @@ ghost use Rattle.running.specs.Hash.{runs};
 ghost use Rattle.sha1_block.specs.Word.{rotl, word};
 ghost use Rattle.sha1_block.specs.Block.{fT, kT, words, next, schedule, round, added, compress, sha1Hash};
 ghost use Rattle.sha1_block.specs.Turns.{turns};
+use octets::be4;
 use std::num::wrapping_add_u32;
 
 // The chaining value; in the rounds, the five working variables.
@@ -35,18 +36,18 @@ fn rotl30(x: u32) -> u32
     (x << 30) | (x >> 2)
 }
 
-fn wide(x: u8) -> u32
+fn widen(x: u8) -> u32
     ensures { λ r. ⌜ (r ≡ x) × (r < 256) ⌝ }
 {
     x as u32
 }
 
 // The word that begins at byte i.
-fn load(m: &[u8], i: usize) -> u32
+fn load_word(m: &[u8], i: usize) -> u32
     requires { ⌜ i + 4 ≤ length (now m) ⌝ }
     ensures { λ r. ⌜ r ≡ word (now (m .entry)) i ⌝ }
 {
-    wide(m[i]) * 16777216 + wide(m[i + 1]) * 65536 + wide(m[i + 2]) * 256 + wide(m[i + 3])
+    widen(m[i]) * 16777216 + widen(m[i + 1]) * 65536 + widen(m[i + 2]) * 256 + widen(m[i + 3])
 }
 
 // The function f_t.
@@ -82,7 +83,7 @@ fn k(t: usize) -> u32
 }
 
 // Round t with the word w.
-fn turned(t: usize, w: u32, v: Chain) -> Chain
+fn do_round(t: usize, w: u32, v: Chain) -> Chain
     ensures { λ r. ⌜ r ≡ round t w v ⌝ }
 {
     let s = wrapping_add_u32(rotl5(v.a), f(t, v.b, v.c, v.d));
@@ -97,36 +98,36 @@ fn turned(t: usize, w: u32, v: Chain) -> Chain
     }
 }
 
-// Twenty rounds from s on. Four calls of it are the eighty: a loop of twenty is unrolled, and `f` and `k` fold away.
-fn twenty(h: Chain, w: &[u32; 80], s: usize) -> Chain
+// Twenty rounds from s on. Four such runs are the eighty: a loop of twenty is unrolled, and `f` and `k` fold away.
+fn do_twenty_rounds(h: Chain, w: &[u32; 80], s: usize) -> Chain
     requires { ⌜ s ≤ 60 ⌝ }
     ensures { λ r. ⌜ r ≡ turns s 20 (now (w .entry)) h ⌝ }
 {
     let mut v = h;
     let mut t: usize = 0;
     while t < 20 {
-        v = turned(s + t, w[s + t], v);
+        v = do_round(s + t, w[s + t], v);
         t += 1;
     }
     v
 }
 
 // The sixteen words of the block m.
-fn loaded(m: &[u8]) -> [u32; 80]
+fn load_block(m: &[u8]) -> [u32; 80]
     requires { ⌜ length (now m) ≡ 64 ⌝ }
     ensures { λ r. ⌜ take 16 r ≡ words 16 (now (m .entry)) ⌝ }
 {
     let mut w = [0u32; 80];
     let mut t: usize = 0;
     while t < 16 {
-        w[t] = load(m, t * 4);
+        w[t] = load_word(m, t * 4);
         t += 1;
     }
     w
 }
 
 // The word W_t from those before it.
-fn mixed(w: &[u32; 80], t: usize) -> u32
+fn mix_word(w: &[u32; 80], t: usize) -> u32
     requires { ⌜ (16 ≤ t) × (t < 80) ⌝ }
     ensures { λ r. ⌜ r ≡ next (now (w .entry)) t ⌝ }
 {
@@ -134,20 +135,21 @@ fn mixed(w: &[u32; 80], t: usize) -> u32
 }
 
 // The eighty words of the block m.
-fn scheduled(m: &[u8]) -> [u32; 80]
+fn make_schedule(m: &[u8]) -> [u32; 80]
     requires { ⌜ length (now m) ≡ 64 ⌝ }
     ensures { λ r. ⌜ r ≡ schedule (now (m .entry)) ⌝ }
 {
-    let mut w = loaded(m);
+    let mut w = load_block(m);
     let mut t: usize = 16;
     while t < 80 {
-        w[t] = mixed(&w, t);
+        w[t] = mix_word(&w, t);
         t += 1;
     }
     w
 }
 
-fn summed(h: Chain, v: Chain) -> Chain
+// What the rounds left, added to what they began with.
+fn add_chains(h: Chain, v: Chain) -> Chain
     ensures { λ r. ⌜ r ≡ added h v ⌝ }
 {
     Chain {
@@ -160,16 +162,16 @@ fn summed(h: Chain, v: Chain) -> Chain
 }
 
 // One block.
-fn compressed(h: Chain, m: &[u8]) -> Chain
+fn compress_block(h: Chain, m: &[u8]) -> Chain
     requires { ⌜ length (now m) ≡ 64 ⌝ }
     ensures { λ r. ⌜ r ≡ compress h (now (m .entry)) ⌝ }
 {
-    let w = scheduled(m);
-    let v = twenty(h, &w, 0);
-    let v = twenty(v, &w, 20);
-    let v = twenty(v, &w, 40);
-    let v = twenty(v, &w, 60);
-    summed(h, v)
+    let w = make_schedule(m);
+    let v = do_twenty_rounds(h, &w, 0);
+    let v = do_twenty_rounds(v, &w, 20);
+    let v = do_twenty_rounds(v, &w, 40);
+    let v = do_twenty_rounds(v, &w, 60);
+    add_chains(h, v)
 }
 
 // The chaining value before the first block.
@@ -192,7 +194,7 @@ pub fn blocks(h: Chain, s: &[u8]) -> Chain
     let mut v = h;
     let mut at: usize = 0;
     while 64 <= s.len() - at {
-        v = compressed(v, &s[at..at + 64]);
+        v = compress_block(v, &s[at..at + 64]);
         at += 64;
     }
     v
@@ -202,26 +204,31 @@ pub fn blocks(h: Chain, s: &[u8]) -> Chain
 pub fn bytes(h: Chain) -> [u8; 20]
     ensures { λ r. ⌜ r ≡ sha1Hash .code h ⌝ }
 {
+    let a = be4(h.a);
+    let b = be4(h.b);
+    let c = be4(h.c);
+    let d = be4(h.d);
+    let e = be4(h.e);
     [
-        (h.a / 256 / 256 / 256 % 256) as u8,
-        (h.a / 256 / 256 % 256) as u8,
-        (h.a / 256 % 256) as u8,
-        (h.a % 256) as u8,
-        (h.b / 256 / 256 / 256 % 256) as u8,
-        (h.b / 256 / 256 % 256) as u8,
-        (h.b / 256 % 256) as u8,
-        (h.b % 256) as u8,
-        (h.c / 256 / 256 / 256 % 256) as u8,
-        (h.c / 256 / 256 % 256) as u8,
-        (h.c / 256 % 256) as u8,
-        (h.c % 256) as u8,
-        (h.d / 256 / 256 / 256 % 256) as u8,
-        (h.d / 256 / 256 % 256) as u8,
-        (h.d / 256 % 256) as u8,
-        (h.d % 256) as u8,
-        (h.e / 256 / 256 / 256 % 256) as u8,
-        (h.e / 256 / 256 % 256) as u8,
-        (h.e / 256 % 256) as u8,
-        (h.e % 256) as u8,
+        a[0],
+        a[1],
+        a[2],
+        a[3],
+        b[0],
+        b[1],
+        b[2],
+        b[3],
+        c[0],
+        c[1],
+        c[2],
+        c[3],
+        d[0],
+        d[1],
+        d[2],
+        d[3],
+        e[0],
+        e[1],
+        e[2],
+        e[3],
     ]
 }

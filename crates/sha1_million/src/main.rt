@@ -2,32 +2,20 @@
 ghost use Prim.Native.Nat.{_≤_, _<_};
 ghost use mathlib.Core.Path.{_≡_};
 ghost use lib.ListN.{length};
+use refusal::Outcome;
 use sha1::Hashed;
-use sha1::Outcome;
+use sha1::LIMIT;
 use sha1::Sha1;
 use sha1::Sha1Hmac;
+use text::Cursor;
 
 const OUT: i32 = 1;
-
-// A hex digit of the low four bits.
-fn digit(x: u8) -> u8 {
-    let d = x % 16;
-    if d < 10 {
-        return 48 + d;
-    }
-    87 + d
-}
 
 // The digest in hex, a space, the blocks in decimal, a newline.
 fn tell(h: Hashed) {
     let digest = h.digest;
     let mut line = [0u8; 40];
-    let mut i: usize = 0;
-    while i < 20 {
-        line[2 * i] = digit(digest[i] / 16);
-        line[2 * i + 1] = digit(digest[i]);
-        i += 1;
-    }
+    text::hex(&mut line, Cursor { at: 0, full: false }, &digest);
     io::write_all(OUT, &line);
     io::write_all(OUT, b" ");
     io::print_decimal(OUT, h.blocks as u64);
@@ -51,7 +39,7 @@ fn tell_answer(answer: Outcome, blocks: u32) {
 }
 
 // The next piece's length: from 1 to 997, never more than what is left.
-fn piece(turn: usize, left: usize) -> usize
+fn next_piece(turn: usize, left: usize) -> usize
     requires { ⌜ 0 < left ⌝ }
     ensures { λ r. ⌜ (0 < r) × (r ≤ left) × (r ≤ 997) ⌝ }
 {
@@ -63,14 +51,14 @@ fn piece(turn: usize, left: usize) -> usize
 }
 
 // The hash after `count` bytes more, in uneven pieces.
-fn fed(hash: Sha1, a: &[u8], count: usize) -> Sha1
+fn feed_hash(hash: Sha1, a: &[u8], count: usize) -> Sha1
     requires { ⌜ length (now a) ≡ 997 ⌝ }
 {
     let mut h = hash;
     let mut left = count;
     let mut turn: usize = 0;
     while 0 < left {
-        let n = piece(turn, left);
+        let n = next_piece(turn, left);
         let next = h.update(&a[..n]);
         h = next.hash;
         left -= n;
@@ -79,14 +67,14 @@ fn fed(hash: Sha1, a: &[u8], count: usize) -> Sha1
     h
 }
 
-fn fed_mac(mac: Sha1Hmac, a: &[u8], count: usize) -> Sha1Hmac
+fn feed_mac(mac: Sha1Hmac, a: &[u8], count: usize) -> Sha1Hmac
     requires { ⌜ length (now a) ≡ 997 ⌝ }
 {
     let mut m = mac;
     let mut left = count;
     let mut turn: usize = 0;
     while 0 < left {
-        let n = piece(turn, left);
+        let n = next_piece(turn, left);
         let next = m.feed(&a[..n]);
         m = next.mac;
         left -= n;
@@ -97,9 +85,9 @@ fn fed_mac(mac: Sha1Hmac, a: &[u8], count: usize) -> Sha1Hmac
 
 fn main() {
     let a = [97u8; 997];
-    let h = fed(Sha1::new(), &a, 1000000);
+    let h = feed_hash(Sha1::new(), &a, 1000000);
     tell(h.finalize());
-    let h = fed(h, &a, 48576);
+    let h = feed_hash(h, &a, LIMIT - 1000000);
     tell(h.finalize());
     let past = h.update(b"a");
     let answer = past.answer;
@@ -110,7 +98,7 @@ fn main() {
     let answer = begun.answer;
     tell_answer(answer, begun.blocks);
     let mac = begun.mac;
-    let m = fed_mac(mac, &a, 1048576);
+    let m = feed_mac(mac, &a, LIMIT);
     tell(m.finalize());
     let past = m.feed(b"a");
     let answer = past.answer;

@@ -4,28 +4,15 @@ ghost use lib.ListN.{length};
 use sha1::Hashed;
 use sha1::Sha1;
 use sha1::Sha1Hmac;
+use text::Cursor;
 
 const OUT: i32 = 1;
-
-// A hex digit of the low four bits.
-fn digit(x: u8) -> u8 {
-    let d = x % 16;
-    if d < 10 {
-        return 48 + d;
-    }
-    87 + d
-}
 
 // The digest in hex, a space, the blocks in decimal, a newline.
 fn tell(h: Hashed) {
     let digest = h.digest;
     let mut line = [0u8; 40];
-    let mut i: usize = 0;
-    while i < 20 {
-        line[2 * i] = digit(digest[i] / 16);
-        line[2 * i + 1] = digit(digest[i]);
-        i += 1;
-    }
+    text::hex(&mut line, Cursor { at: 0, full: false }, &digest);
     io::write_all(OUT, &line);
     io::write_all(OUT, b" ");
     io::print_decimal(OUT, h.blocks as u64);
@@ -33,7 +20,7 @@ fn tell(h: Hashed) {
 }
 
 // SHA-1 of s in one call.
-fn whole(s: &[u8]) {
+fn tell_hash(s: &[u8]) {
     io::write_all(OUT, b"sha1 ");
     io::print_decimal(OUT, s.len() as u64);
     io::write_all(OUT, b" ");
@@ -41,7 +28,7 @@ fn whole(s: &[u8]) {
 }
 
 // HMAC-SHA1 of s in one call.
-fn keyed(key: &[u8], s: &[u8]) {
+fn tell_hmac(key: &[u8], s: &[u8]) {
     io::write_all(OUT, b"hmac ");
     io::print_decimal(OUT, key.len() as u64);
     io::write_all(OUT, b" ");
@@ -51,7 +38,7 @@ fn keyed(key: &[u8], s: &[u8]) {
 }
 
 // The same two from running values, the bytes in two pieces.
-fn pieces(key: &[u8], a: &[u8], b: &[u8]) {
+fn tell_pieces(key: &[u8], a: &[u8], b: &[u8]) {
     io::write_all(OUT, b"pieces ");
     io::print_decimal(OUT, a.len() as u64);
     io::write_all(OUT, b" ");
@@ -72,43 +59,43 @@ fn pieces(key: &[u8], a: &[u8], b: &[u8]) {
 }
 
 // The byte at place i of the messages of the long list.
-fn mixed(i: usize) -> u8 {
+fn message_byte(i: usize) -> u8 {
     ((i % 256 * 7 + i / 3 % 256) % 256) as u8
 }
 
-fn message() -> [u8; 200] {
+fn make_message() -> [u8; 200] {
     let mut m = [0u8; 200];
     let mut i: usize = 0;
     while i < 200 {
-        m[i] = mixed(i);
+        m[i] = message_byte(i);
         i += 1;
     }
     m
 }
 
 // The first n bytes: whole, under a key of half the length, and cut at a third.
-fn at(m: &[u8], n: usize)
+fn tell_length(m: &[u8], n: usize)
     requires { ⌜ n ≤ length (now m) ⌝ }
 {
-    whole(&m[..n]);
-    keyed(&m[..n / 2], &m[..n]);
-    pieces(&m[..n / 2], &m[..n / 3], &m[n / 3..n]);
+    tell_hash(&m[..n]);
+    tell_hmac(&m[..n / 2], &m[..n]);
+    tell_pieces(&m[..n / 2], &m[..n / 3], &m[n / 3..n]);
 }
 
-fn lengths() {
-    let m = message();
+fn tell_lengths() {
+    let m = make_message();
     let mut n: usize = 0;
     while n <= 200 {
-        at(&m, n);
+        tell_length(&m, n);
         n += 1;
     }
 }
 
 // The seven cases of RFC 2202, section 3.
-fn rfc_2202() {
-    keyed(&[0x0b; 20], b"Hi There");
-    keyed(b"Jefe", b"what do ya want for nothing?");
-    keyed(&[0xaa; 20], &[0xdd; 50]);
+fn tell_rfc_2202() {
+    tell_hmac(&[0x0b; 20], b"Hi There");
+    tell_hmac(b"Jefe", b"what do ya want for nothing?");
+    tell_hmac(&[0xaa; 20], &[0xdd; 50]);
     let key = [
         1,
         2,
@@ -136,22 +123,22 @@ fn rfc_2202() {
         24,
         25,
     ];
-    keyed(&key, &[0xcd; 50]);
-    keyed(&[0x0c; 20], b"Test With Truncation");
+    tell_hmac(&key, &[0xcd; 50]);
+    tell_hmac(&[0x0c; 20], b"Test With Truncation");
     let long = [0xaa; 80];
-    keyed(
+    tell_hmac(
         &long,
         b"Test Using Larger Than Block-Size Key - Hash Key First",
     );
-    keyed(
+    tell_hmac(
         &long,
         b"Test Using Larger Than Block-Size Key and Larger Than One Block-Size Data",
     );
 }
 
 fn main() {
-    whole(b"abc");
-    whole(b"abcdbcdecdefdefgefghfghighijhijkijkljklmklmnlmnomnopnopq");
-    rfc_2202();
-    lengths();
+    tell_hash(b"abc");
+    tell_hash(b"abcdbcdecdefdefgefghfghighijhijkijkljklmklmnlmnomnopnopq");
+    tell_rfc_2202();
+    tell_lengths();
 }

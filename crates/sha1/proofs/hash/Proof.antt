@@ -9,12 +9,12 @@ use Rattle.sha1.proofs.hash.Statement.{statement}
 use Rattle.sha1.proofs.hash.Tie as tie
 
 returns : tie.Need-returns
-returns c = as-no (c .refused .ensures) (lt-leb _ _ (c .before .if1 .taken)) _ _ _ refl
+returns c = as-no (c .refuse-code .ensures) (lt-leb _ _ (c .before .if1 .taken)) _ _ _ refl
 
 returns-2 : tie.Need-returns-2
 returns-2 c =
     hashed-whole sha1Hash (λ d. d) (c .before .before .before .before .before .args .s .now) (c .before .before .before .if1 .left)
-    (c .before .before .new .ensures) (c .before .with .ensures) (c .closed .ensures)
+    (c .before .before .new .ensures) (c .before .absorb .ensures) (c .close .ensures)
 
 pub hash-spec : {M : Type 1} → statement M
 hash-spec =

@@ -24,7 +24,7 @@ loop-again : tie.Need-loop-again Inv-loop μ-loop
 unfolding sha1Hash
 loop-again c =
     let l = c .before .before .before .loop in
-    (search needs, search needs, runs-next (sha1Hash .compress) (l .at) _ (l .v) _ _ (l .inv .1) (l .inv .2) (c .compressed .ensures))
+    (search needs, search needs, runs-next (sha1Hash .compress) (l .at) _ (l .v) _ _ (l .inv .1) (l .inv .2) (c .compress-block .ensures))
 
 returns : tie.Need-returns Inv-loop μ-loop
 returns c =

@@ -11,13 +11,14 @@ use Rattle.keys.proofs.state.message_2_code.Tie as tie
 returns : tie.Need-returns
 unfolding text2
 returns c =
-    let k = c .before .before .before .before .before .before .before .before .before .args .password .now in
-    let g₁ = c .before .before .before .before .before .before .fed-id .ensures k _ _ (c .before .before .before .before .before .before .before .begun .ensures) (omega arith) in
-    let g₂ = c .before .before .before .before .before .fed-id2 .ensures k _ _ g₁ (omega arith) in
-    let g₃ = c .before .before .before .before .fed16 .ensures k _ _ g₂ (omega arith) in
-    let g₄ = c .before .before .before .fed162 .ensures k _ _ g₃ (omega arith) in
-    let g₅ = c .before .before .fed163 .ensures k _ _ g₄ (omega arith) in
-    let g₆ = c .before .fed-role .ensures k _ _ g₅ (omega arith) in
+    let b = c .before .before .before .before .before .before .before in
+    let k = b .before .before .args .password .now in
+    let g₁ = c .before .before .before .before .before .before .feed-id .ensures k _ _ (b .begin .ensures) (omega arith) in
+    let g₂ = c .before .before .before .before .before .feed-id2 .ensures k _ _ g₁ (omega arith) in
+    let g₃ = c .before .before .before .before .feed16 .ensures k _ _ g₂ (omega arith) in
+    let g₄ = c .before .before .before .feed162 .ensures k _ _ g₃ (omega arith) in
+    let g₅ = c .before .before .feed163 .ensures k _ _ g₄ (omega arith) in
+    let g₆ = c .before .feed-role .ensures k _ _ g₅ (omega arith) in
     given-code sha1Hash sha1-sized (λ d. d) k _ _ g₆ (c .finalize .ensures) (omega arith)
 
 pub message-2-code-spec : {M : Type 1} → statement M

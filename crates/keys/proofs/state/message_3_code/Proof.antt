@@ -12,9 +12,9 @@ returns : tie.Need-returns
 unfolding text3
 returns c =
     let k = c .before .before .before .before .before .before .args .password .now in
-    let g₁ = c .before .before .before .fed16 .ensures k _ _ (c .before .before .before .before .begun .ensures) (omega arith) in
-    let g₂ = c .before .before .fed-id .ensures k _ _ g₁ (omega arith) in
-    let g₃ = c .before .fed-role .ensures k _ _ g₂ (omega arith) in
+    let g₁ = c .before .before .before .feed16 .ensures k _ _ (c .before .before .before .before .begin .ensures) (omega arith) in
+    let g₂ = c .before .before .feed-id .ensures k _ _ g₁ (omega arith) in
+    let g₃ = c .before .feed-role .ensures k _ _ g₂ (omega arith) in
     given-code sha1Hash sha1-sized (λ d. d) k _ _ g₃ (c .finalize .ensures) (omega arith)
 
 pub message-3-code-spec : {M : Type 1} → statement M

@@ -14,12 +14,13 @@ use Rattle.keys.proofs.state.message_4_value.Tie as tie
 returns : tie.Need-returns
 unfolding text4 sha1Hash
 returns c =
-    let k = c .before .before .before .before .before .before .args .sik in
-    let n = c .before .before .before .before .before .begun-sik .ensures .1 in
+    let b = c .before .before .before .before .before in
+    let k = b .before .args .sik in
+    let n = b .begin-with-sik .ensures .1 in
     let s : length k ≤ limit = omega arith in
-    let g₁ = c .before .before .before .before .fed16 .ensures k _ _ (c .before .before .before .before .before .begun-sik .ensures .0) (omega arith) in
-    let g₂ = c .before .before .before .fed-id .ensures k _ _ g₁ (omega arith) in
-    let g₃ = c .before .before .fed162 .ensures k _ _ g₂ (omega arith) in
+    let g₁ = c .before .before .before .before .feed16 .ensures k _ _ (b .begin-with-sik .ensures .0) (omega arith) in
+    let g₂ = c .before .before .before .feed-id .ensures k _ _ g₁ (omega arith) in
+    let g₃ = c .before .before .feed162 .ensures k _ _ g₂ (omega arith) in
     first-bytes sha1Hash sha1-sized k _ 12 _ g₃ (c .before .finalize .ensures) (omega arith) s (omega arith)
 
 pub message-4-value-spec : {M : Type 1} → statement M

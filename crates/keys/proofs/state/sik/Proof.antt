@@ -16,9 +16,9 @@ returns c =
     let a = c .before .before .before .before .before .before .before .before .args in
     let k = c .before .before .before .before .before .kg .result .now in
     let e : k ≡ keyOf (a .key .now) (a .password .now) = c .before .before .before .before .before .kg .ensures .0 in
-    let g₁ = c .before .before .before .fed16 .ensures k _ _ (c .before .before .before .before .begun .ensures) (omega arith) in
-    let g₂ = c .before .before .fed162 .ensures k _ _ g₁ (omega arith) in
-    let g₃ = c .before .fed-role .ensures k _ _ g₂ (omega arith) in
+    let g₁ = c .before .before .before .feed16 .ensures k _ _ (c .before .before .before .before .begin .ensures) (omega arith) in
+    let g₂ = c .before .before .feed162 .ensures k _ _ g₁ (omega arith) in
+    let g₃ = c .before .feed-role .ensures k _ _ g₂ (omega arith) in
     rw e at (given-code sha1Hash sha1-sized (λ d. d) k _ _ g₃ (c .finalize .ensures) (omega arith))
 
 pub sik-spec : {M : Type 1} → statement M

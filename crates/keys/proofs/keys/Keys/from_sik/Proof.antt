@@ -1,4 +1,5 @@
 -- `from_sik` keeps its promise: each key is the code that one call makes.
+use Rattle.running.specs.Promise.{limit}
 use Rattle.sha1_block.specs.Block.{sha1Hash}
 use Rattle.sha1_block.proofs.Laws.{sha1-sized}
 use Rattle.keys.proofs.Running.{key-is}
@@ -16,7 +17,7 @@ unfolding keysOf
 returns c =
     let s = c .before .before .before .before .before .before .before .before .args .t1 in
     let n : length (c .before .before .before .before .before .before .before .before .args .t1) ≡ 20 = search needs in
-    let l : length s ≤ 1048576 = omega arith in
+    let l : length s ≤ limit = omega arith in
     let e₁ = key-is sha1Hash sha1-sized s (replicate 20 1) l (omega arith) (c .before .before .before .before .before .hmac .ensures) in
     let e₂ = key-is sha1Hash sha1-sized s (replicate 20 2) l (omega arith) (c .before .before .hmac2 .ensures) in
     λ i. record { sik = s; k1 = e₁ i; k2 = e₂ i }

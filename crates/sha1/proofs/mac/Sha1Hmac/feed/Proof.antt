@@ -1,10 +1,11 @@
--- `Sha1Hmac::feed` keeps its promise: `within` decides.
+-- `Sha1Hmac::feed` keeps its promise: `fits_limit` decides.
 use Prim.Native.Nat.{_+_}
 use mathlib.Core.Path.{refl, sym, _∙_, ap}
 use native.Mathlib.Omega.{arith}
 use lib.ListN.{length}
 use borrow.Author.Tests.{not-true, not-false, leb-true}
 use Rattle.running.specs.Mac.{macRunning}
+use Rattle.running.specs.Promise.{innerLimit}
 use Rattle.running.proofs.Promised.{as-yes, as-no}
 use borrow.Author.Needs.{needs}
 use Rattle.sha1.proofs.mac.Sha1Hmac.feed.Statement.{statement}
@@ -12,21 +13,22 @@ use Rattle.sha1.proofs.mac.Sha1Hmac.feed.Tie as tie
 
 returns : tie.Need-returns
 returns c =
-    as-no (c .stopped .ensures) (sym (c .before .before .within .ensures) ∙ not-true (c .before .before .within .result) (c .before .if1 .taken)) _ _ _
+    as-no (c .refuse .ensures) (sym (c .before .before .fits-limit .ensures) ∙ not-true (c .before .before .fits-limit .result) (c .before .if1 .taken)) _ _ _
     refl
 
-with-requires : tie.Need-with-requires
-with-requires c κs =
-    omega
-    (arith, leb-true (c .before .before .before .before .args .self .inner .len + length (c .before .before .before .before .args .s .now)) 1048640 (sym (c .before .within .ensures) ∙ not-false (c .before .within .result) (c .if1 .left)))
+absorb-requires : tie.Need-absorb-requires
+absorb-requires c κs =
+    let a = c .before .before .before .before .args in
+    let t = sym (c .before .fits-limit .ensures) ∙ not-false (c .before .fits-limit .result) (c .if1 .left) in
+    omega (arith, leb-true (a .self .inner .len + length (a .s .now)) innerLimit t)
 
 returns-2 : tie.Need-returns-2
 returns-2 c =
-    as-yes (c .running .ensures)
-    (sym (c .before .before .before .within .ensures) ∙ not-false (c .before .before .before .within .result) (c .before .before .if1 .left)) _ _ _
-    (c .before .with .ensures) (ap macRunning (c .before .with .ensures))
+    as-yes (c .accept .ensures)
+    (sym (c .before .before .before .fits-limit .ensures) ∙ not-false (c .before .before .before .fits-limit .result) (c .before .before .if1 .left)) _ _ _
+    (c .before .absorb .ensures) (ap macRunning (c .before .absorb .ensures))
 
 pub feed-spec : {M : Type 1} → statement M
 feed-spec =
     tie.close
-    (tie.spec (λ c κs. search needs) (λ c κs. search needs) returns with-requires (λ c κs. search needs) returns-2)
+    (tie.spec (λ c κs. search needs) (λ c κs. search needs) returns absorb-requires (λ c κs. search needs) returns-2)

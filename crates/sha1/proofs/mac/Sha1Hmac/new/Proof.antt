@@ -8,11 +8,11 @@ use Rattle.sha1.proofs.mac.Sha1Hmac.new.Statement.{statement}
 use Rattle.sha1.proofs.mac.Sha1Hmac.new.Tie as tie
 
 returns : tie.Need-returns
-returns c = as-no (c .stopped .ensures) (lt-leb _ _ (c .before .before .if1 .taken)) _ _ _ (c .before .nothing .ensures)
+returns c = as-no (c .refuse .ensures) (lt-leb _ _ (c .before .before .if1 .taken)) _ _ _ (c .before .make-spent .ensures)
 
 returns-2 : tie.Need-returns-2
-returns-2 c = as-yes (c .running .ensures) (le-leb _ _ (c .before .before .if1 .left)) _ _ _ (c .before .begun .ensures)
-    (ap macRunning (c .before .begun .ensures))
+returns-2 c = as-yes (c .accept .ensures) (le-leb _ _ (c .before .before .if1 .left)) _ _ _ (c .before .begin .ensures)
+    (ap macRunning (c .before .begin .ensures))
 
 pub new-spec : {M : Type 1} → statement M
 new-spec =

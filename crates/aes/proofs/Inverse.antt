@@ -1,18 +1,18 @@
 -- The cipher and the inverse cipher undo one another, on every block and over any round keys.
-use Prim.Native.Nat.{ℕ, zero, suc, _+_, _*_, _/_, _<_}
-use mathlib.Core.Path.{_≡_, refl, sym, _∙_, ap}
+use Prim.Native.Nat.{ℕ, zero, suc, _+_, _*_}
+use mathlib.Core.Path.{_≡_, refl, _∙_, ap}
 use mathlib.Core.List.{List, [], _∷_}
 use lib.Bits.{bitXor}
 use lib.ListN.{length, getD}
 use Rattle.octets.specs.Bytes.{Bytes}
 use Rattle.sbox.specs.Substitution.{subBytes, unsubBytes}
-use Rattle.sbox.proofs.Tab.{tab-self}
+use Rattle.octets.proofs.Tab.{tab-self}
 use Rattle.sbox.proofs.Inverse as sbox
-use Rattle.aes.specs.State.{at, shiftRows, unshiftRows, mixRow, unmixRow, mixColumns, unmixColumns, addRoundKey}
+use Rattle.aes.specs.State.{shiftRows, unshiftRows, mixRow, unmixRow, mixColumns, unmixColumns, addRoundKey}
 use Rattle.aes.specs.Cipher.{rounds, cipher, unrounds, invCipher}
-use Rattle.aes.proofs.Xor.{xor-twice}
+use Rattle.octets.proofs.Xor.{xor-twice}
 use Rattle.aes.proofs.Mix.{unmix-mix, mix-unmix}
-use Rattle.aes.proofs.Block.{Block, sub-block, unsub-block, shift-block, unshift-block, mix-block, unmix-block, add-block, rounds-block}
+use Rattle.aes.proofs.Block.{Block, sub-block, unsub-block, shift-block, unshift-block, mix-block, unmix-block, add-block}
 
 -- each transformation undoes its inverse, on a block
 module _ (s : List ℕ) (h : Block s) where
@@ -33,7 +33,11 @@ module _ (s : List ℕ) (h : Block s) where
   unmix-mixColumns : unmixColumns (mixColumns s) ≡ s
   unfolding mixColumns unmixColumns
   unmix-mixColumns =
-      (λ i. u 0 1 2 3 i ∷ u 1 2 3 0 i ∷ u 2 3 0 1 i ∷ u 3 0 1 2 i ∷ u 4 5 6 7 i ∷ u 5 6 7 4 i ∷ u 6 7 4 5 i ∷ u 7 4 5 6 i ∷ u 8 9 10 11 i ∷ u 9 10 11 8 i ∷ u 10 11 8 9 i ∷ u 11 8 9 10 i ∷ u 12 13 14 15 i ∷ u 13 14 15 12 i ∷ u 14 15 12 13 i ∷ u 15 12 13 14 i ∷ []) ∙ tab-self s 16 (h .size)
+      (λ i. u 0 1 2 3 i ∷ u 1 2 3 0 i ∷ u 2 3 0 1 i ∷ u 3 0 1 2 i
+      ∷ u 4 5 6 7 i ∷ u 5 6 7 4 i ∷ u 6 7 4 5 i ∷ u 7 4 5 6 i
+      ∷ u 8 9 10 11 i ∷ u 9 10 11 8 i ∷ u 10 11 8 9 i ∷ u 11 8 9 10 i
+      ∷ u 12 13 14 15 i ∷ u 13 14 15 12 i ∷ u 14 15 12 13 i ∷ u 15 12 13 14 i ∷ [])
+      ∙ tab-self s 16 (h .size)
     where
       u : (i j k l : ℕ)
           → unmixRow (mixRow (getD s i 0) (getD s j 0) (getD s k 0) (getD s l 0)) (mixRow (getD s j 0) (getD s k 0) (getD s l 0) (getD s i 0))
@@ -43,7 +47,11 @@ module _ (s : List ℕ) (h : Block s) where
   mix-unmixColumns : mixColumns (unmixColumns s) ≡ s
   unfolding mixColumns unmixColumns
   mix-unmixColumns =
-      (λ i. u 0 1 2 3 i ∷ u 1 2 3 0 i ∷ u 2 3 0 1 i ∷ u 3 0 1 2 i ∷ u 4 5 6 7 i ∷ u 5 6 7 4 i ∷ u 6 7 4 5 i ∷ u 7 4 5 6 i ∷ u 8 9 10 11 i ∷ u 9 10 11 8 i ∷ u 10 11 8 9 i ∷ u 11 8 9 10 i ∷ u 12 13 14 15 i ∷ u 13 14 15 12 i ∷ u 14 15 12 13 i ∷ u 15 12 13 14 i ∷ []) ∙ tab-self s 16 (h .size)
+      (λ i. u 0 1 2 3 i ∷ u 1 2 3 0 i ∷ u 2 3 0 1 i ∷ u 3 0 1 2 i
+      ∷ u 4 5 6 7 i ∷ u 5 6 7 4 i ∷ u 6 7 4 5 i ∷ u 7 4 5 6 i
+      ∷ u 8 9 10 11 i ∷ u 9 10 11 8 i ∷ u 10 11 8 9 i ∷ u 11 8 9 10 i
+      ∷ u 12 13 14 15 i ∷ u 13 14 15 12 i ∷ u 14 15 12 13 i ∷ u 15 12 13 14 i ∷ [])
+      ∙ tab-self s 16 (h .size)
     where
       u : (i j k l : ℕ)
           → mixRow (unmixRow (getD s i 0) (getD s j 0) (getD s k 0) (getD s l 0)) (unmixRow (getD s j 0) (getD s k 0) (getD s l 0) (getD s i 0))
@@ -53,7 +61,9 @@ module _ (s : List ℕ) (h : Block s) where
   add-add : (w : List ℕ) (n : ℕ) → addRoundKey w n (addRoundKey w n s) ≡ s
   unfolding addRoundKey
   add-add w n =
-      (λ i. u 0 i ∷ u 1 i ∷ u 2 i ∷ u 3 i ∷ u 4 i ∷ u 5 i ∷ u 6 i ∷ u 7 i ∷ u 8 i ∷ u 9 i ∷ u 10 i ∷ u 11 i ∷ u 12 i ∷ u 13 i ∷ u 14 i ∷ u 15 i ∷ []) ∙ tab-self s 16 (h .size)
+      (λ i. u 0 i ∷ u 1 i ∷ u 2 i ∷ u 3 i ∷ u 4 i ∷ u 5 i ∷ u 6 i ∷ u 7 i
+      ∷ u 8 i ∷ u 9 i ∷ u 10 i ∷ u 11 i ∷ u 12 i ∷ u 13 i ∷ u 14 i ∷ u 15 i ∷ [])
+      ∙ tab-self s 16 (h .size)
     where
       u : (k : ℕ) → bitXor (bitXor (getD s k 0) (getD w (16 * n + k) 0)) (getD w (16 * n + k) 0) ≡ getD s k 0
       u k = xor-twice (getD s k 0) (getD w (16 * n + k) 0)

@@ -1,15 +1,16 @@
 -- The expanded key is bytes: 176 of them.
 use Prim.Native.Nat.{ℕ, zero, suc, _+_, _*_, _/_, _%_, _-_, _<_}
 use native.Mathlib.Omega.{arith}
-use mathlib.Core.Bool.{Bool, true, false}
-use mathlib.Core.Path.{_≡_, refl, _∙_, ap, ap₂}
+use mathlib.Core.Bool.{Bool, true, false, cond}
+use mathlib.Core.Path.{_≡_, refl, _∙_, ap₂}
 use mathlib.Core.List.{List, [], _∷_, _++_}
 use lib.Dec.{eqb, lit<}
 use lib.ListN.{length, getD, length-append}
 use Rattle.octets.specs.Bytes.{Bytes}
 use Rattle.octets.proofs.Bytes.{bytes-nil, bytes-append}
-use Rattle.sbox.proofs.Sizes.{xor-byte, xtime-byte, subByte-byte}
-use Rattle.aes.specs.Key.{powers, rcon, rotWord, subWord, xorWord, choose, temp, word, words, schedule, keyExpansion}
+use Rattle.octets.proofs.Xor.{xor-byte}
+use Rattle.sbox.proofs.Sizes.{xtime-byte, subByte-byte}
+use Rattle.aes.specs.Key.{powers, rcon, rotWord, subWord, xorWord, temp, word, words, schedule, keyExpansion}
 
 powers-byte : (n : ℕ) → powers n < 256
 unfolding powers
@@ -37,14 +38,14 @@ rcon-bytes : (j : ℕ) → Bytes (rcon j)
 unfolding rcon
 rcon-bytes j = four (powers (j - 1)) 0 0 0 (powers-byte (j - 1)) (lit< tt) (lit< tt) (lit< tt)
 
-choose-bytes : (b : Bool) (x y : List ℕ) → Bytes x → Bytes y → Bytes (choose b x y)
-choose-bytes true x y h g = h
-choose-bytes false x y h g = g
+cond-bytes : (b : Bool) (x y : List ℕ) → Bytes x → Bytes y → Bytes (cond b x y)
+cond-bytes true x y h g = h
+cond-bytes false x y h g = g
 
 temp-bytes : (i : ℕ) (a : List ℕ) → Bytes a → Bytes (temp i a)
 unfolding temp
 temp-bytes i a h =
-    choose-bytes (eqb (i % 4) 0) (xorWord (subWord (rotWord a)) (rcon (i / 4))) a
+    cond-bytes (eqb (i % 4) 0) (xorWord (subWord (rotWord a)) (rcon (i / 4))) a
     (xor-bytes (subWord (rotWord a)) (rcon (i / 4)) (subWord-bytes (rotWord a)) (rcon-bytes (i / 4)))
     h
 

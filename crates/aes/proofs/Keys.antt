@@ -1,21 +1,21 @@
 -- Laws of the key expansion: what the code computes for a round key, and how one round key follows the other.
-use Prim.Native.Nat.{ℕ, zero, suc, _+_, _*_, _/_, _%_, _-_, _<_, _≤_}
+use Prim.Native.Nat.{ℕ, suc, _+_, _*_, _/_, _%_, _-_, _<_, _≤_}
 use native.Mathlib.Numerals.{add-one}
-use mathlib.Core.Bool.{Bool, true, false}
+use mathlib.Core.Bool.{Bool, cond}
 use mathlib.Core.Path.{_≡_, refl, sym, _∙_, ap, ap₂}
-use mathlib.Core.List.{List, [], _∷_, _++_, append-assoc}
+use mathlib.Core.List.{List, [], _∷_, _++_}
 use native.Mathlib.Omega.{arith}
 use borrow.Author.Tests.{eq-eqb, ne-eqb}
 use lib.Bits.{bitXor, xor-zero-r}
-use lib.ListN.{length, getD, take, drop, length-append}
-use lib.Seq.{take-at, take-all, length-take-le}
+use lib.ListN.{length, getD, take}
+use lib.Seq.{take-all}
 use Rattle.octets.specs.Place.{pasted}
 use Rattle.octets.specs.Promise.{PutPromise}
-use Rattle.octets.proofs.Place.{put-done, length-pasted}
+use Rattle.octets.proofs.Place.{put-done, length-pasted, take-put}
 use Rattle.sbox.specs.Field.{xtime}
 use Rattle.sbox.specs.Substitution.{subByte, subBytes}
-use Rattle.aes.specs.Key.{powers, rcon, rotWord, subWord, xorWord, choose, temp, word, words, schedule, keyExpansion}
-use Rattle.aes.specs.Turn.{first, nextKey}
+use Rattle.aes.specs.Key.{powers, rcon, rotWord, subWord, xorWord, temp, word, words, schedule, keyExpansion}
+use Rattle.aes.specs.Turn.{nextKey}
 
 -- the sixteen bytes of the code, from the round key k, its substituted bytes t and the round's constant
 abbrev pub turned : List ℕ → List ℕ → ℕ → List ℕ
@@ -66,13 +66,13 @@ unfolding temp rcon
 temp-first n a =
     let e : (4 * n + 4) % 4 ≡ 0 = omega arith in
     let m : (4 * n + 4) / 4 - 1 ≡ n = omega arith in
-    ap (λ (b : Bool). choose b (xorWord (subWord (rotWord a)) (rcon ((4 * n + 4) / 4))) a) (eq-eqb ((4 * n + 4) % 4) 0 e)
+    ap (λ (b : Bool). cond b (xorWord (subWord (rotWord a)) (rcon ((4 * n + 4) / 4))) a) (eq-eqb ((4 * n + 4) % 4) 0 e)
     ∙ ap (λ (j : ℕ). xorWord (subWord (rotWord a)) (powers j ∷ 0 ∷ 0 ∷ 0 ∷ [])) m
 
 -- the others are as they are
 temp-other : (i : ℕ) (a : List ℕ) → (i % 4 ≡ 0 → ⊥) → temp i a ≡ a
 unfolding temp
-temp-other i a h = ap (λ (b : Bool). choose b (xorWord (subWord (rotWord a)) (rcon (i / 4))) a) (ne-eqb (i % 4) 0 h)
+temp-other i a h = ap (λ (b : Bool). cond b (xorWord (subWord (rotWord a)) (rcon (i / 4))) a) (ne-eqb (i % 4) 0 h)
 
 -- one word on
 abbrev step : List ℕ → List ℕ → List ℕ
@@ -107,13 +107,6 @@ words-turn k n =
 pub length-nextKey : (k : List ℕ) (rc : ℕ) → length (nextKey k rc) ≡ 16
 unfolding nextKey
 length-nextKey k rc = refl
-
--- what stands up to the end of what was put
-pub take-put : (d : List ℕ) (a m : ℕ) (s : List ℕ) → length s ≡ m → a ≤ length d → take (a + m) (pasted d a s) ≡ take a d ++ s
-unfolding pasted
-take-put d a m s e h =
-    ap (take (a + m)) (sym (append-assoc (take a d) s (drop (a + length s) d)))
-    ∙ take-at (take a d ++ s) _ (a + m) (length-append (take a d) s ∙ ap₂ _+_ (length-take-le a d h) e)
 
 -- the first round key, put at the start
 pub key-first : (k d x : List ℕ) (r : Bool) → length k ≡ 16 → length d ≡ 176 → PutPromise d 0 k r x

@@ -1,6 +1,4 @@
-pub mod Xor
-pub mod Linear
-pub mod ByBits
+pub mod Quad
 pub mod Mix
 pub mod Keys
 pub mod KeyBytes

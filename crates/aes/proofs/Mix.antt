@@ -4,9 +4,11 @@ use mathlib.Core.Path.{_≡_, refl, sym, _∙_, ap, ap₂}
 use lib.Bits.{bitXor, xor-zero-r, xor-comm}
 use Rattle.sbox.specs.Field.{xtime, mul}
 use Rattle.aes.specs.State.{row, mixRow, unmixRow}
-use Rattle.aes.proofs.Xor.{quad, quad-ap, quad-turn, quad-quad, quad-xor, quad-first, quad-left, quad-234, quad-12, quad-13, xor-assoc}
-use Rattle.aes.proofs.ByBits.{Linear, by-bits}
-use Rattle.aes.proofs.Linear.{mul-xor, xtime-xor, xtime-quad, mul-quad, mul-1, mul-2, mul-3, mul-9, mul-11, mul-13, mul-14}
+use Rattle.octets.proofs.Xor.{xor-assoc}
+use Rattle.octets.proofs.ByBits.{Linear, by-bits}
+use Rattle.sbox.proofs.Linear.{mul-xor, xtime-xor, mul-1, mul-2, mul-3, mul-9, mul-11, mul-13, mul-14}
+use Rattle.aes.proofs.Quad.{quad, quad-ap, quad-turn, quad-quad, quad-xor, quad-first, quad-left, quad-234, quad-12, quad-13}
+use Rattle.aes.proofs.Quad.{xtime-quad, mul-quad}
 
 -- one doubling for a byte of a mixed column
 pub mix-one : (a b c d : ℕ) → bitXor (bitXor (xtime (bitXor a b)) b) (bitXor c d) ≡ mixRow a b c d

@@ -1,7 +1,5 @@
 -- No second answer: two results that keep a public call's promise on the same arguments are equal.
-use mathlib.Core.Path.{_≡_, sym, _∙_, ap}
-use mathlib.Core.List.{List}
-use Prim.Native.Nat.{ℕ}
+use mathlib.Core.Path.{_≡_, sym, _∙_}
 use Rattle.aes.specs.declared.Aes128.{Aes128}
 use Rattle.aes.specs.Schedule.{keysOf}
 use Rattle.aes.proofs.Aes128.new.Reads as new

@@ -1,6 +1,6 @@
 -- KeyExpansion for a key of sixteen bytes (FIPS 197, section 5.2; docs/RULES.md, 4.1).
 use Prim.Native.Nat.{ℕ, zero, suc, _+_, _*_, _/_, _%_, _-_}
-use mathlib.Core.Bool.{Bool, true, false}
+use mathlib.Core.Bool.{cond}
 use mathlib.Core.List.{List, [], _∷_, _++_}
 use lib.Bits.{bitXor}
 use lib.Dec.{eqb}
@@ -30,13 +30,9 @@ xorWord a b =
     ∷ bitXor (getD a 2 0) (getD b 2 0) ∷ bitXor (getD a 3 0) (getD b 3 0) ∷ []
 
 -- what word i - 4 is added to, from word i - 1: every fourth time it is turned, substituted and given the round's constant
-abbrev pub choose : Bool → List ℕ → List ℕ → List ℕ
-choose true x y = x
-choose false x y = y
-
 unfoldable pub temp : ℕ → List ℕ → List ℕ
 unfolding rcon rotWord subWord xorWord
-temp i a = choose (eqb (i % 4) 0) (xorWord (subWord (rotWord a)) (rcon (i / 4))) a
+temp i a = cond (eqb (i % 4) 0) (xorWord (subWord (rotWord a)) (rcon (i / 4))) a
 
 -- word j of sixteen bytes
 unfoldable pub word : List ℕ → ℕ → List ℕ

@@ -5,7 +5,7 @@ use mathlib.Core.List.{List}
 use lib.ListN.{getD}
 use lib.Bits.{bitXor}
 use Rattle.sbox.specs.Field.{mul}
-use Rattle.sbox.specs.Tab.{tab}
+use Rattle.octets.specs.Tab.{tab}
 
 -- the byte in row r of column c, both taken modulo 4
 unfoldable pub at : List ℕ → ℕ → ℕ → ℕ

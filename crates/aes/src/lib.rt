@@ -1,7 +1,6 @@
 // AES with a key of 128 bits (FIPS 197): key expansion, the cipher and the inverse cipher of one block.
 ghost use mathlib.Core.Path.{_≡_};
 ghost use Prim.Native.Nat.{_<_};
-ghost use Rattle.sbox.specs.Field.{xtime};
 ghost use Rattle.aes.specs.State.{shiftRows, unshiftRows, mixRow, unmixRow, mixColumns, unmixColumns, addRoundKey};
 ghost use Rattle.aes.specs.Cipher.{cipher, invCipher};
 ghost use Rattle.aes.specs.Key.{keyExpansion};
@@ -9,28 +8,22 @@ ghost use Rattle.aes.specs.Schedule.{keysOf};
 ghost use Rattle.aes.specs.Turn.{nextKey};
 use sbox::inv_sub_bytes;
 use sbox::sub_bytes;
+use sbox::xtime;
 
 // The eleven round keys, one after the other.
 pub struct Aes128 {
     pub keys: [u8; 176],
 }
 
-// The product by x in the field.
-fn xtime(b: u8) -> u8
-    ensures { λ r. ⌜ r ≡ xtime b ⌝ }
-{
-    (b % 128 * 2) ^ (b / 128 * 27)
-}
-
 // A byte of a mixed column: {02} a + {03} b + c + d.
-fn mixed(a: u8, b: u8, c: u8, d: u8) -> u8
+fn mix_byte(a: u8, b: u8, c: u8, d: u8) -> u8
     ensures { λ r. ⌜ r ≡ mixRow a b c d ⌝ }
 {
     xtime(a ^ b) ^ b ^ (c ^ d)
 }
 
 // A byte of an unmixed column: {0e} a + {0b} b + {0d} c + {09} d, by three doublings.
-fn unmixed(a: u8, b: u8, c: u8, d: u8) -> u8
+fn unmix_byte(a: u8, b: u8, c: u8, d: u8) -> u8
     ensures { λ r. ⌜ r ≡ unmixRow a b c d ⌝ }
 {
     let e = xtime(a ^ b ^ (c ^ d));
@@ -38,6 +31,7 @@ fn unmixed(a: u8, b: u8, c: u8, d: u8) -> u8
     xtime(f ^ (a ^ b)) ^ (b ^ (c ^ d))
 }
 
+// Row r is turned left by r places; a block has its bytes column by column.
 fn shift_rows(s: [u8; 16]) -> [u8; 16]
     ensures { λ r. ⌜ r ≡ shiftRows s ⌝ }
 {
@@ -61,6 +55,7 @@ fn shift_rows(s: [u8; 16]) -> [u8; 16]
     ]
 }
 
+// Row r is turned right by r places.
 fn inv_shift_rows(t: [u8; 16]) -> [u8; 16]
     ensures { λ r. ⌜ r ≡ unshiftRows t ⌝ }
 {
@@ -84,6 +79,7 @@ fn inv_shift_rows(t: [u8; 16]) -> [u8; 16]
     ]
 }
 
+// Each column times the matrix, whose rows are turns of one.
 fn mix_columns(s: [u8; 16]) -> [u8; 16]
     ensures { λ r. ⌜ r ≡ mixColumns s ⌝ }
 {
@@ -104,25 +100,26 @@ fn mix_columns(s: [u8; 16]) -> [u8; 16]
     let s14 = s[14];
     let s15 = s[15];
     [
-        mixed(s0, s1, s2, s3),
-        mixed(s1, s2, s3, s0),
-        mixed(s2, s3, s0, s1),
-        mixed(s3, s0, s1, s2),
-        mixed(s4, s5, s6, s7),
-        mixed(s5, s6, s7, s4),
-        mixed(s6, s7, s4, s5),
-        mixed(s7, s4, s5, s6),
-        mixed(s8, s9, s10, s11),
-        mixed(s9, s10, s11, s8),
-        mixed(s10, s11, s8, s9),
-        mixed(s11, s8, s9, s10),
-        mixed(s12, s13, s14, s15),
-        mixed(s13, s14, s15, s12),
-        mixed(s14, s15, s12, s13),
-        mixed(s15, s12, s13, s14),
+        mix_byte(s0, s1, s2, s3),
+        mix_byte(s1, s2, s3, s0),
+        mix_byte(s2, s3, s0, s1),
+        mix_byte(s3, s0, s1, s2),
+        mix_byte(s4, s5, s6, s7),
+        mix_byte(s5, s6, s7, s4),
+        mix_byte(s6, s7, s4, s5),
+        mix_byte(s7, s4, s5, s6),
+        mix_byte(s8, s9, s10, s11),
+        mix_byte(s9, s10, s11, s8),
+        mix_byte(s10, s11, s8, s9),
+        mix_byte(s11, s8, s9, s10),
+        mix_byte(s12, s13, s14, s15),
+        mix_byte(s13, s14, s15, s12),
+        mix_byte(s14, s15, s12, s13),
+        mix_byte(s15, s12, s13, s14),
     ]
 }
 
+// Each column times the inverse matrix.
 fn inv_mix_columns(s: [u8; 16]) -> [u8; 16]
     ensures { λ r. ⌜ r ≡ unmixColumns s ⌝ }
 {
@@ -143,25 +140,26 @@ fn inv_mix_columns(s: [u8; 16]) -> [u8; 16]
     let s14 = s[14];
     let s15 = s[15];
     [
-        unmixed(s0, s1, s2, s3),
-        unmixed(s1, s2, s3, s0),
-        unmixed(s2, s3, s0, s1),
-        unmixed(s3, s0, s1, s2),
-        unmixed(s4, s5, s6, s7),
-        unmixed(s5, s6, s7, s4),
-        unmixed(s6, s7, s4, s5),
-        unmixed(s7, s4, s5, s6),
-        unmixed(s8, s9, s10, s11),
-        unmixed(s9, s10, s11, s8),
-        unmixed(s10, s11, s8, s9),
-        unmixed(s11, s8, s9, s10),
-        unmixed(s12, s13, s14, s15),
-        unmixed(s13, s14, s15, s12),
-        unmixed(s14, s15, s12, s13),
-        unmixed(s15, s12, s13, s14),
+        unmix_byte(s0, s1, s2, s3),
+        unmix_byte(s1, s2, s3, s0),
+        unmix_byte(s2, s3, s0, s1),
+        unmix_byte(s3, s0, s1, s2),
+        unmix_byte(s4, s5, s6, s7),
+        unmix_byte(s5, s6, s7, s4),
+        unmix_byte(s6, s7, s4, s5),
+        unmix_byte(s7, s4, s5, s6),
+        unmix_byte(s8, s9, s10, s11),
+        unmix_byte(s9, s10, s11, s8),
+        unmix_byte(s10, s11, s8, s9),
+        unmix_byte(s11, s8, s9, s10),
+        unmix_byte(s12, s13, s14, s15),
+        unmix_byte(s13, s14, s15, s12),
+        unmix_byte(s14, s15, s12, s13),
+        unmix_byte(s15, s12, s13, s14),
     ]
 }
 
+// The sum with round key n of those in w.
 fn add_round_key(w: &[u8; 176], n: usize, s: [u8; 16]) -> [u8; 16]
     requires { ⌜ n < 11 ⌝ }
     ensures { λ r. ⌜ r ≡ addRoundKey (now (w .entry)) n s ⌝ }
@@ -188,7 +186,7 @@ fn add_round_key(w: &[u8; 176], n: usize, s: [u8; 16]) -> [u8; 16]
 }
 
 // The round key after k, by the round's constant.
-fn next_key(k: [u8; 16], rc: u8) -> [u8; 16]
+fn make_next_key(k: [u8; 16], rc: u8) -> [u8; 16]
     ensures { λ r. ⌜ r ≡ nextKey k rc ⌝ }
 {
     let t = sub_bytes(k);
@@ -239,7 +237,7 @@ impl Aes128 {
         let mut rc: u8 = 1;
         let mut n: usize = 0;
         while n < 10 {
-            k = next_key(k, rc);
+            k = make_next_key(k, rc);
             rc = xtime(rc);
             n += 1;
             octets::put(&mut keys, 16 * n, &k);

@@ -6,12 +6,8 @@ ghost use Rattle.aes.specs.Schedule.{keysOf};
 ghost use Rattle.cbc.specs.Cbc.{xorBlock, encryptBlocks, decryptBlocks, cbcEncrypt, cbcDecrypt};
 ghost use Rattle.cbc.specs.Promise.{CbcPromise};
 use aes::Aes128;
+use refusal::Outcome;
 use refusal::Refusal;
-
-pub enum Ciphered {
-    Done,
-    Refused(Refusal),
-}
 
 // The sum of two blocks, bit by bit.
 pub fn xor_block(a: [u8; 16], b: [u8; 16]) -> [u8; 16]
@@ -37,6 +33,7 @@ pub fn xor_block(a: [u8; 16], b: [u8; 16]) -> [u8; 16]
     ]
 }
 
+// Encrypts whole blocks, each chained on the cipher block before it.
 fn encrypt_blocks(a: Aes128, iv: [u8; 16], s: &mut [u8])
     requires { ⌜ length (now s) % 16 ≡ 0 ⌝ }
     ensures { λ _. ⌜ now (s .exit) ≡ encryptBlocks (keysOf a) iv (length (now (s .entry)) / 16) (now (s .entry)) ⌝ }
@@ -52,6 +49,7 @@ fn encrypt_blocks(a: Aes128, iv: [u8; 16], s: &mut [u8])
     }
 }
 
+// Decrypts whole blocks; the cipher block is read before its place is written.
 fn decrypt_blocks(a: Aes128, iv: [u8; 16], s: &mut [u8])
     requires { ⌜ length (now s) % 16 ≡ 0 ⌝ }
     ensures { λ _. ⌜ now (s .exit) ≡ decryptBlocks (keysOf a) iv (length (now (s .entry)) / 16) (now (s .entry)) ⌝ }
@@ -69,23 +67,23 @@ fn decrypt_blocks(a: Aes128, iv: [u8; 16], s: &mut [u8])
 }
 
 // Encrypts the lent bytes in their place.
-pub fn cbc_encrypt(key: [u8; 16], iv: [u8; 16], s: &mut [u8]) -> Ciphered
+pub fn cbc_encrypt(key: [u8; 16], iv: [u8; 16], s: &mut [u8]) -> Outcome
     ensures { λ r. ⌜ CbcPromise (now (s .entry)) (cbcEncrypt key iv (now (s .entry))) r (now (s .exit)) ⌝ }
 {
     if s.len() % 16 != 0 {
-        return Ciphered::Refused(Refusal::NotWholeBlocks);
+        return Outcome::Refused(Refusal::NotWholeBlocks);
     }
     encrypt_blocks(Aes128::new(key), iv, s);
-    Ciphered::Done
+    Outcome::Done
 }
 
 // Decrypts the lent bytes in their place.
-pub fn cbc_decrypt(key: [u8; 16], iv: [u8; 16], s: &mut [u8]) -> Ciphered
+pub fn cbc_decrypt(key: [u8; 16], iv: [u8; 16], s: &mut [u8]) -> Outcome
     ensures { λ r. ⌜ CbcPromise (now (s .entry)) (cbcDecrypt key iv (now (s .entry))) r (now (s .exit)) ⌝ }
 {
     if s.len() % 16 != 0 {
-        return Ciphered::Refused(Refusal::NotWholeBlocks);
+        return Outcome::Refused(Refusal::NotWholeBlocks);
     }
     decrypt_blocks(Aes128::new(key), iv, s);
-    Ciphered::Done
+    Outcome::Done
 }

@@ -1,33 +1,23 @@
 -- The inverse in the field is one, and each substitution undoes the other.
 use Prim.Native.Nat.{ℕ, zero, suc, _<_}
-use mathlib.Core.Path.{_≡_, refl, sym, _∙_, ap}
+use mathlib.Core.Path.{_≡_, sym, _∙_, ap}
 use mathlib.Core.List.{List, [], _∷_}
 use native.Mathlib.Nat.{le-of-suc-le-suc, not-suc-le-zero}
 use lib.ListN.{length, getD}
-use Rattle.sbox.specs.Tab.{tab}
 use Rattle.sbox.specs.Field.{mul, inverse}
-use Rattle.sbox.specs.Substitution.{affine, unaffine, subByte, unsubByte, subBytes, unsubBytes}
-use Rattle.sbox.proofs.Agree.{agree}
+use Rattle.sbox.specs.Substitution.{unaffine, subByte, unsubByte, subBytes, unsubBytes}
+use Rattle.octets.proofs.Agree.{agree}
 use Rattle.sbox.proofs.Sizes.{subByte-byte, unsubByte-byte}
-use Rattle.sbox.proofs.Tab.{tab-self}
-use Rattle.sbox.proofs.Table.{sbox, unsbox, sbox-rule, unsbox-rule}
+use Rattle.octets.proofs.Tab.{tab-self}
+use Rattle.sbox.proofs.Table.{sbox, unsbox, sbox-rule, inverse-rule, unsbox-rule}
 
 -- each byte but {00} times its inverse is {01}
 pub mul-inverse : (a : ℕ) → a < 256 → 0 < a → mul a (inverse a) ≡ 1
 mul-inverse zero h z = absurd (not-suc-le-zero z)
-mul-inverse (suc a) h z = test a (le-of-suc-le-suc h)
+mul-inverse (suc a) h z = ap (mul (suc a)) (inverse-rule (suc a) h) ∙ test a (le-of-suc-le-suc h)
   where
-    test : (b : ℕ) → b < 255 → mul (suc b) (inverse (suc b)) ≡ 1
-    test = unfold mul inverse in agree (λ b. mul (suc b) (inverse (suc b))) (λ b. 1) 255 tt
-
--- the bits of the inverse substitution's map undo those of the substitution's
-pub unaffine-affine : (a : ℕ) → a < 256 → unaffine (affine a) ≡ a
-unfolding affine unaffine
-unaffine-affine = agree (λ a. unaffine (affine a)) (λ a. a) 256 tt
-
-pub affine-unaffine : (a : ℕ) → a < 256 → affine (unaffine a) ≡ a
-unfolding affine unaffine
-affine-unaffine = agree (λ a. affine (unaffine a)) (λ a. a) 256 tt
+    test : (b : ℕ) → b < 255 → mul (suc b) (unaffine (getD sbox (suc b) 0)) ≡ 1
+    test = unfold mul unaffine in agree (λ b. mul (suc b) (unaffine (getD sbox (suc b) 0))) (λ b. 1) 255 tt
 
 -- each substitution undoes the other on bytes
 pub unsub-sub : (a : ℕ) → a < 256 → unsubByte (subByte a) ≡ a
@@ -45,7 +35,8 @@ module _ (s : List ℕ) (size : length s ≡ 16) (small : (i : ℕ) → getD s i
   pub unsub-subBytes : unsubBytes (subBytes s) ≡ s
   unfolding subBytes unsubBytes
   unsub-subBytes =
-      (λ i. u 0 i ∷ u 1 i ∷ u 2 i ∷ u 3 i ∷ u 4 i ∷ u 5 i ∷ u 6 i ∷ u 7 i ∷ u 8 i ∷ u 9 i ∷ u 10 i ∷ u 11 i ∷ u 12 i ∷ u 13 i ∷ u 14 i ∷ u 15 i ∷ [])
+      (λ i. u 0 i ∷ u 1 i ∷ u 2 i ∷ u 3 i ∷ u 4 i ∷ u 5 i ∷ u 6 i ∷ u 7 i
+      ∷ u 8 i ∷ u 9 i ∷ u 10 i ∷ u 11 i ∷ u 12 i ∷ u 13 i ∷ u 14 i ∷ u 15 i ∷ [])
       ∙ tab-self s 16 size
     where
       u : (k : ℕ) → unsubByte (subByte (getD s k 0)) ≡ getD s k 0
@@ -54,7 +45,8 @@ module _ (s : List ℕ) (size : length s ≡ 16) (small : (i : ℕ) → getD s i
   pub sub-unsubBytes : subBytes (unsubBytes s) ≡ s
   unfolding subBytes unsubBytes
   sub-unsubBytes =
-      (λ i. u 0 i ∷ u 1 i ∷ u 2 i ∷ u 3 i ∷ u 4 i ∷ u 5 i ∷ u 6 i ∷ u 7 i ∷ u 8 i ∷ u 9 i ∷ u 10 i ∷ u 11 i ∷ u 12 i ∷ u 13 i ∷ u 14 i ∷ u 15 i ∷ [])
+      (λ i. u 0 i ∷ u 1 i ∷ u 2 i ∷ u 3 i ∷ u 4 i ∷ u 5 i ∷ u 6 i ∷ u 7 i
+      ∷ u 8 i ∷ u 9 i ∷ u 10 i ∷ u 11 i ∷ u 12 i ∷ u 13 i ∷ u 14 i ∷ u 15 i ∷ [])
       ∙ tab-self s 16 size
     where
       u : (k : ℕ) → subByte (unsubByte (getD s k 0)) ≡ getD s k 0

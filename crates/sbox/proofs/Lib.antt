@@ -1,6 +1,6 @@
-pub mod Agree
-pub mod Table
-pub mod Tab
 pub mod Sizes
+pub mod Linear
+pub mod Affine
+pub mod Table
 pub mod Inverse
 pub mod Only

@@ -1,15 +1,11 @@
 -- Products, powers and substitutions are bytes.
-use Prim.Native.Nat.{ℕ, zero, suc, _+_, _*_, _/_, _%_, _^_, _≤_, _<_}
-use mathlib.Core.Path.{_≡_, refl, sym, _∙_, ap, subst}
+use Prim.Native.Nat.{ℕ, zero, suc, _*_, _/_, _%_, _^_, _<_}
 use native.Mathlib.Nat.{mod-lt}
 use native.Mathlib.Omega.{arith}
 use lib.Dec.{lit<}
-use lib.Bits.{bitXor, xor-lt}
+use Rattle.octets.proofs.Xor.{xor-byte}
 use Rattle.sbox.specs.Field.{xtime, product, mul, squares, inverse}
-use Rattle.sbox.specs.Substitution.{ofBits, affineBit, affine, unaffine, subByte, unsubByte}
-
-pub xor-byte : (a b : ℕ) → a < 256 → b < 256 → bitXor a b < 256
-xor-byte = xor-lt 8
+use Rattle.sbox.specs.Substitution.{ofBits, affineBit, affine, unaffineBit, unaffine, subByte, unsubByte}
 
 pub xtime-byte : (b : ℕ) → xtime b < 256
 unfolding xtime
@@ -27,7 +23,8 @@ digit-byte a b h = go (a % 2) (omega arith)
 pub product-byte : (k a b : ℕ) → b < 256 → product k a b < 256
 unfolding product
 product-byte zero a b h = lit< tt
-product-byte (suc k) a b h = xor-byte (a % 2 * b) (product k (a / 2) (xtime b)) (digit-byte a b h) (product-byte k (a / 2) (xtime b) (xtime-byte b))
+product-byte (suc k) a b h =
+    xor-byte (a % 2 * b) (product k (a / 2) (xtime b)) (digit-byte a b h) (product-byte k (a / 2) (xtime b) (xtime-byte b))
 
 pub mul-byte : (a b : ℕ) → b < 256 → mul a b < 256
 unfolding mul
@@ -50,6 +47,10 @@ bits-lt (suc n) f = omega (arith, bits-lt n (λ i. f (suc i)), mod-lt (f 0) (lit
 pub subByte-byte : (a : ℕ) → subByte a < 256
 unfolding subByte affine
 subByte-byte a = bits-lt 8 (affineBit (inverse a))
+
+pub unaffine-byte : (a : ℕ) → unaffine a < 256
+unfolding unaffine
+unaffine-byte a = bits-lt 8 (unaffineBit a)
 
 pub unsubByte-byte : (a : ℕ) → unsubByte a < 256
 unfolding unsubByte

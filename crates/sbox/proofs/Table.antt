@@ -1,11 +1,14 @@
 -- The two tables of the code as lists, and that every entry is what the rule says: one computed test for each table, and
 -- the law `agree` that carries it to each entry.
 use Prim.Native.Nat.{ℕ, _<_}
-use mathlib.Core.Path.{_≡_, refl, sym, _∙_, ap}
+use mathlib.Core.Path.{_≡_, sym, _∙_, ap}
 use mathlib.Core.List.{List, [], _∷_}
 use lib.ListN.{getD}
-use Rattle.sbox.specs.Substitution.{subByte, unsubByte}
-use Rattle.sbox.proofs.Agree.{agree}
+use Rattle.octets.proofs.Agree.{agree}
+use Rattle.sbox.specs.Field.{inverse}
+use Rattle.sbox.specs.Substitution.{unaffine, subByte, unsubByte}
+use Rattle.sbox.proofs.Affine.{unaffine-affine}
+use Rattle.sbox.proofs.Sizes.{inverse-byte, unaffine-byte}
 
 abbrev pub sbox : List ℕ
 sbox =
@@ -49,6 +52,14 @@ pub sbox-rule : (a : ℕ) → a < 256 → getD sbox a 0 ≡ subByte a
 unfolding subByte
 sbox-rule = agree (λ a. getD sbox a 0) subByte 256 tt
 
+-- so the inverse in the field can be read from the table, and the tests below need no power
+pub inverse-rule : (a : ℕ) → a < 256 → inverse a ≡ unaffine (getD sbox a 0)
+unfolding subByte
+inverse-rule a h = sym (unaffine-affine (inverse a) (inverse-byte a)) ∙ ap unaffine (sym (sbox-rule a h))
+
 pub unsbox-rule : (a : ℕ) → a < 256 → getD unsbox a 0 ≡ unsubByte a
 unfolding unsubByte
-unsbox-rule = agree (λ a. getD unsbox a 0) unsubByte 256 tt
+unsbox-rule a h = test a h ∙ sym (inverse-rule (unaffine a) (unaffine-byte a))
+  where
+    test : (b : ℕ) → b < 256 → getD unsbox b 0 ≡ unaffine (getD sbox (unaffine b) 0)
+    test = unfold unaffine in agree (λ b. getD unsbox b 0) (λ b. unaffine (getD sbox (unaffine b) 0)) 256 tt

@@ -3,7 +3,7 @@ use Prim.Native.Nat.{ℕ, zero, suc, _+_, _*_, _/_, _%_, _^_}
 use mathlib.Core.List.{List}
 use lib.ListN.{getD}
 use Rattle.sbox.specs.Field.{inverse}
-use Rattle.sbox.specs.Tab.{tab}
+use Rattle.octets.specs.Tab.{tab}
 
 -- bit i of b, i taken modulo 8
 unfoldable pub bit : ℕ → ℕ → ℕ

@@ -1,10 +1,11 @@
--- `add_round_key` keeps its promise: the definition computes to the sums named.
-use Prim.Native.Nat.{ℕ, _+_, _*_}
+-- `add_round_key` keeps its promise: the definition computes to the sums named, the first of them at 16 n + 0.
+use Prim.Native.Nat.{ℕ, suc, _+_, _*_}
 use native.Mathlib.Omega.{arith}
-use mathlib.Core.List.{List, [], _∷_}
-use mathlib.Core.Path.{_≡_}
+use mathlib.Core.List.{List, _∷_}
+use mathlib.Core.Path.{_≡_, ap}
 use lib.Bits.{bitXor}
 use lib.ListN.{getD}
+use Rattle.octets.specs.Tab.{tab}
 use Rattle.aes.specs.State.{addRoundKey}
 use borrow.Author.Needs.{needs}
 use Rattle.aes.proofs.add_round_key.Statement.{statement}
@@ -13,11 +14,12 @@ use Rattle.aes.proofs.add_round_key.Tie as tie
 returns : tie.Need-returns
 unfolding addRoundKey
 returns c =
-    let s : List ℕ = c .before .before .before .before .before .before .before .before .before .before .before .before .before .before .before .before .args .t3 in
-    let w : List ℕ = c .before .before .before .before .before .before .before .before .before .before .before .before .before .before .before .before .args .w .now in
-    let n : ℕ = c .before .before .before .before .before .before .before .before .before .before .before .before .before .before .before .before .args .n in
+    let a = c .before .before .before .before .before .before .before .before .before .before .before .before .before .before .before .before .args in
+    let s : List ℕ = a .t3 in
+    let w : List ℕ = a .w .now in
+    let n : ℕ = a .n in
     let z : 16 * n ≡ 16 * n + 0 = omega arith in
-    λ i. bitXor (getD s 0 0) (getD w (z i) 0) ∷ bitXor (getD s 1 0) (getD w (16 * n + 1) 0) ∷ bitXor (getD s 2 0) (getD w (16 * n + 2) 0) ∷ bitXor (getD s 3 0) (getD w (16 * n + 3) 0) ∷ bitXor (getD s 4 0) (getD w (16 * n + 4) 0) ∷ bitXor (getD s 5 0) (getD w (16 * n + 5) 0) ∷ bitXor (getD s 6 0) (getD w (16 * n + 6) 0) ∷ bitXor (getD s 7 0) (getD w (16 * n + 7) 0) ∷ bitXor (getD s 8 0) (getD w (16 * n + 8) 0) ∷ bitXor (getD s 9 0) (getD w (16 * n + 9) 0) ∷ bitXor (getD s 10 0) (getD w (16 * n + 10) 0) ∷ bitXor (getD s 11 0) (getD w (16 * n + 11) 0) ∷ bitXor (getD s 12 0) (getD w (16 * n + 12) 0) ∷ bitXor (getD s 13 0) (getD w (16 * n + 13) 0) ∷ bitXor (getD s 14 0) (getD w (16 * n + 14) 0) ∷ bitXor (getD s 15 0) (getD w (16 * n + 15) 0) ∷ []
+    ap (λ (k : ℕ). bitXor (getD s 0 0) (getD w k 0) ∷ tab 15 (λ j. bitXor (getD s (suc j) 0) (getD w (16 * n + suc j) 0))) z
 
 pub add-round-key-spec : {M : Type 1} → statement M
 add-round-key-spec =

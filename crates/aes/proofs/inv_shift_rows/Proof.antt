@@ -7,8 +7,7 @@ use Rattle.aes.proofs.inv_shift_rows.Tie as tie
 
 returns : tie.Need-returns
 unfolding unshiftRows
-returns c =
-    refl
+returns c = refl
 
 pub inv-shift-rows-spec : {M : Type 1} → statement M
 inv-shift-rows-spec =

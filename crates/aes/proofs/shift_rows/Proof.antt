@@ -7,8 +7,7 @@ use Rattle.aes.proofs.shift_rows.Tie as tie
 
 returns : tie.Need-returns
 unfolding shiftRows
-returns c =
-    refl
+returns c = refl
 
 pub shift-rows-spec : {M : Type 1} → statement M
 shift-rows-spec =

@@ -1,20 +1,22 @@
 -- `encrypt_blocks` keeps its promise: what is done and the run over the rest are always the whole run.
-use Prim.Native.Nat.{_≤_, _-_, _+_, _*_, _/_, ℕ}
+use Prim.Native.Nat.{_≤_, _-_, _*_, _/_, ℕ}
 use native.Mathlib.Omega.{arith}
-use mathlib.Core.Path.{_≡_, refl, sym, _∙_, ap}
+use mathlib.Core.Path.{_≡_, sym, _∙_, ap}
 use mathlib.Core.List.{List, _++_}
 use borrow.Author.Needs.{needs}
 use lib.ListN.{take, drop, length}
 use Rattle.octets.proofs.Filled.{filled-part}
-use Rattle.aes.specs.Cipher.{cipher, invCipher}
+use Rattle.aes.specs.Cipher.{cipher}
 use Rattle.aes.specs.Schedule.{keysOf}
-use Rattle.cbc.specs.Cbc.{xorBlock}
 use Rattle.cbc.proofs.Run.{run, run-start, run-turn, run-end, sealed, sealed-length, encrypt-run}
 use Rattle.cbc.proofs.encrypt_blocks.Statement.{statement}
 use Rattle.cbc.proofs.encrypt_blocks.Tie as tie
 
 abbrev Inv-loop : tie.InvT-loop
-Inv-loop a s₀ n v₀ i₀ s v i = (i ≤ n) × (16 * n ≡ length s) × (take (16 * i) s ++ run (sealed (keysOf a)) (sealed (keysOf a)) v (n - i) (drop (16 * i) s) ≡ run (sealed (keysOf a)) (sealed (keysOf a)) v₀ n s₀)
+Inv-loop a s₀ n v₀ i₀ s v i =
+    (i ≤ n) × (16 * n ≡ length s)
+    × (take (16 * i) s ++ run (sealed (keysOf a)) (sealed (keysOf a)) v (n - i) (drop (16 * i) s)
+    ≡ run (sealed (keysOf a)) (sealed (keysOf a)) v₀ n s₀)
 
 abbrev μ-loop : tie.MeasureT-loop
 μ-loop a s₀ n v₀ i₀ s v i = n - i
@@ -23,11 +25,17 @@ loop-holds : tie.Need-loop-holds Inv-loop μ-loop
 loop-holds c = (search needs, omega arith, run-start _ _ _ _ _)
 
 loop-again : tie.Need-loop-again Inv-loop μ-loop
-loop-again c = let w : List ℕ = keysOf (c .before .before .before .before .before .before .before .before .before .before .before .before .args .a) in
+loop-again c =
     let l = c .before .before .before .before .before .before .before .before .before .before .loop in
-    let h = c .before .before .before .before .before .encrypt-block .ensures ∙ ap (cipher w) (c .before .before .before .before .before .before .xor-block .ensures) in
-    let t = run-turn (sealed w) (sealed w) (l .i) _ (l .v) (l .s) _ _ _ _ _ _ (omega arith) (l .inv .1) (sealed-length w) (l .inv .2)
-    (c .before .before .before .before .before .before .before .block .ensures ∙ filled-part 16 (l .s) (16 * l .i) (omega arith)) h h (c .before .before .put .ensures) in
+    let put = c .before .before .put in
+    let encrypt-block = c .before .before .before .before .before .encrypt-block in
+    let xor-block = c .before .before .before .before .before .before .xor-block in
+    let block = c .before .before .before .before .before .before .before .block in
+    let a = c .before .before .before .before .before .before .before .before .before .before .before .before .args in
+    let w : List ℕ = keysOf (a .a) in
+    let h = encrypt-block .ensures ∙ ap (cipher w) (xor-block .ensures) in
+    let t = run-turn (sealed w) (sealed w) (l .i) _ (l .v) (l .s) _ _ _ _ _ _ (omega arith) (l .inv .1) (sealed-length w)
+    (l .inv .2) (block .ensures ∙ filled-part 16 (l .s) (16 * l .i) (omega arith)) h h (put .ensures) in
     (omega arith, t .0, t .1)
 
 same-length : tie.Need-same-length Inv-loop μ-loop

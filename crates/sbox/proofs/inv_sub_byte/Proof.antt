@@ -6,7 +6,7 @@ use Rattle.sbox.proofs.inv_sub_byte.Statement.{statement}
 use Rattle.sbox.proofs.inv_sub_byte.Tie as tie
 
 returns : tie.Need-returns
-returns c = c .looked .ensures ∙ unsbox-rule (c .before .before .args .x) (search needs)
+returns c = c .look-up .ensures ∙ unsbox-rule (c .before .before .args .x) (search needs)
 
 pub inv-sub-byte-spec : {M : Type 1} → statement M
 inv-sub-byte-spec = tie.close (tie.spec (λ c κs. search needs) returns)

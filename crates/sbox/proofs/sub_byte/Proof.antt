@@ -6,7 +6,7 @@ use Rattle.sbox.proofs.sub_byte.Statement.{statement}
 use Rattle.sbox.proofs.sub_byte.Tie as tie
 
 returns : tie.Need-returns
-returns c = c .looked .ensures ∙ sbox-rule (c .before .before .args .x) (search needs)
+returns c = c .look-up .ensures ∙ sbox-rule (c .before .before .args .x) (search needs)
 
 pub sub-byte-spec : {M : Type 1} → statement M
 sub-byte-spec = tie.close (tie.spec (λ c κs. search needs) returns)

@@ -1,5 +1,5 @@
 -- `decrypt_block` keeps its promise: the rounds that are left make of the state what all of them make of the first.
-use Prim.Native.Nat.{_≤_, _-_}
+use Prim.Native.Nat.{_≤_}
 use native.Mathlib.Omega.{arith}
 use mathlib.Core.Path.{_≡_, refl}
 use borrow.Author.Needs.{needs}
@@ -19,11 +19,25 @@ loop-holds : tie.Need-loop-holds Inv-loop μ-loop
 loop-holds c = (search needs, refl)
 
 loop-again : tie.Need-loop-again Inv-loop μ-loop
-loop-again c = (search needs, unround-turn _ _ _ _ _ _ _ _ (omega arith) (c .before .before .before .before .before .before .loop .inv .1) (c .before .before .before .inv-shift-rows .ensures) (c .before .before .inv-sub-bytes .ensures) (c .before .add-round-key2 .ensures) (c .inv-mix-columns .ensures))
+loop-again c =
+    let add-round-key2 = c .before .add-round-key2 in
+    let inv-sub-bytes = c .before .before .inv-sub-bytes in
+    let inv-shift-rows = c .before .before .before .inv-shift-rows in
+    let l = c .before .before .before .before .before .before .loop in (
+      search needs,
+      unround-turn _ _ _ _ _ _ _ _ (omega arith) (l .inv .1) (inv-shift-rows .ensures) (inv-sub-bytes .ensures)
+          (add-round-key2 .ensures) (c .inv-mix-columns .ensures),
+    )
 
 returns : tie.Need-returns Inv-loop μ-loop
 unfolding keysOf
-returns c = invCipher-end _ _ _ _ _ _ _ _ (omega arith) (c .before .before .before .before .before .before .add-round-key .ensures) (c .before .before .before .before .before .loop .inv .1) (c .before .before .inv-shift-rows2 .ensures) (c .before .inv-sub-bytes2 .ensures) (c .add-round-key3 .ensures)
+returns c =
+    let inv-sub-bytes2 = c .before .inv-sub-bytes2 in
+    let inv-shift-rows2 = c .before .before .inv-shift-rows2 in
+    let l = c .before .before .before .before .before .loop in
+    let add-round-key = c .before .before .before .before .before .before .add-round-key in
+    invCipher-end _ _ _ _ _ _ _ _ (omega arith) (add-round-key .ensures) (l .inv .1) (inv-shift-rows2 .ensures)
+    (inv-sub-bytes2 .ensures) (c .add-round-key3 .ensures)
 
 pub decrypt-block-spec : {M : Type 1} → statement M
 decrypt-block-spec =

@@ -20,11 +20,25 @@ unfolding rounds
 loop-holds c = (search needs, refl)
 
 loop-again : tie.Need-loop-again Inv-loop μ-loop
-loop-again c = (search needs, round-turn _ _ _ _ _ _ _ _ (c .before .before .before .before .before .before .loop .inv .1) (c .before .before .before .sub-bytes .ensures) (c .before .before .shift-rows .ensures) (c .before .mix-columns .ensures) (c .add-round-key2 .ensures))
+loop-again c =
+    let mix-columns = c .before .mix-columns in
+    let shift-rows = c .before .before .shift-rows in
+    let sub-bytes = c .before .before .before .sub-bytes in
+    let l = c .before .before .before .before .before .before .loop in (
+      search needs,
+      round-turn _ _ _ _ _ _ _ _ (l .inv .1) (sub-bytes .ensures) (shift-rows .ensures) (mix-columns .ensures)
+          (c .add-round-key2 .ensures),
+    )
 
 returns : tie.Need-returns Inv-loop μ-loop
 unfolding keysOf
-returns c = cipher-end _ _ _ _ _ _ _ _ (omega arith) (c .before .before .before .before .before .before .add-round-key .ensures) (c .before .before .before .before .before .loop .inv .1) (c .before .before .sub-bytes2 .ensures) (c .before .shift-rows2 .ensures) (c .add-round-key3 .ensures)
+returns c =
+    let shift-rows2 = c .before .shift-rows2 in
+    let sub-bytes2 = c .before .before .sub-bytes2 in
+    let l = c .before .before .before .before .before .loop in
+    let add-round-key = c .before .before .before .before .before .before .add-round-key in
+    cipher-end _ _ _ _ _ _ _ _ (omega arith) (add-round-key .ensures) (l .inv .1) (sub-bytes2 .ensures)
+    (shift-rows2 .ensures) (c .add-round-key3 .ensures)
 
 pub encrypt-block-spec : {M : Type 1} → statement M
 encrypt-block-spec =

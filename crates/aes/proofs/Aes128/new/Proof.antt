@@ -11,20 +11,31 @@ use Rattle.aes.proofs.Aes128.new.Statement.{statement}
 use Rattle.aes.proofs.Aes128.new.Tie as tie
 
 abbrev Inv-loop : tie.InvT-loop
-Inv-loop keys₀ k₀ rc₀ n₀ keys k rc n = (n ≤ 10) × (take (16 * (n + 1)) keys ≡ schedule k₀ (n + 1)) × (length keys ≡ 176) × (k ≡ words k₀ (4 * n)) × (rc ≡ powers n)
+Inv-loop keys₀ k₀ rc₀ n₀ keys k rc n =
+    (n ≤ 10) × (take (16 * (n + 1)) keys ≡ schedule k₀ (n + 1)) × (length keys ≡ 176)
+    × (k ≡ words k₀ (4 * n)) × (rc ≡ powers n)
 
 abbrev μ-loop : tie.MeasureT-loop
 μ-loop keys₀ k₀ rc₀ n₀ keys k rc n = 10 - n
 
 loop-holds : tie.Need-loop-holds Inv-loop μ-loop
 unfolding words powers
-loop-holds c = let f = key-first (c .before .before .before .before .args .t1) _ _ _ (c .before .before .before .before .good .0 .1 .0 .1) refl (c .before .put .ensures) in
+loop-holds c =
+    let put = c .before .put in
+    let a = c .before .before .before .before .args in
+    let good = c .before .before .before .before .good in
+    let f = key-first (a .t1) _ _ _ (good .0 .1 .0 .1) refl (put .ensures) in
     (search needs, f .0, f .1, refl, refl)
 
 loop-again : tie.Need-loop-again Inv-loop μ-loop
-loop-again c = let v = c .before .before .before .before .before .before .before .loop .inv in
-    let t = key-turn _ (c .before .before .before .before .before .before .before .loop .n) _ _ _ _ _ _ (omega arith) (v .1, v .2, v .3, v .4) (c .before .before .before .before .before .next-key .ensures) (c .before .put2 .ensures) in
-    (search needs, t .0, t .1, t .2, powers-turn (c .before .before .before .before .before .before .before .loop .n) _ _ (v .4) (c .before .before .before .before .xtime .ensures))
+loop-again c =
+    let put2 = c .before .put2 in
+    let xtime = c .before .before .before .before .xtime in
+    let make-next-key = c .before .before .before .before .before .make-next-key in
+    let l = c .before .before .before .before .before .before .before .loop in
+    let v = l .inv in
+    let t = key-turn _ (l .n) _ _ _ _ _ _ (omega arith) (v .1, v .2, v .3, v .4) (make-next-key .ensures) (put2 .ensures) in
+    (search needs, t .0, t .1, t .2, powers-turn (l .n) _ _ (v .4) (xtime .ensures))
 
 returns : tie.Need-returns Inv-loop μ-loop
 unfolding keysOf

@@ -1,11 +1,11 @@
--- `unchain` ends.
+-- `show_unchain` ends.
 use Prim.Native.Nat.{_≤_, _-_}
 use native.Mathlib.Omega.{arith}
 use mathlib.Core.Path.{_≡_}
 use borrow.Author.Needs.{needs}
 use lib.ListN.{length}
-use Rattle.cipher_vectors.proofs.unchain.Statement.{statement}
-use Rattle.cipher_vectors.proofs.unchain.Tie as tie
+use Rattle.cipher_vectors.proofs.show_unchain.Statement.{statement}
+use Rattle.cipher_vectors.proofs.show_unchain.Tie as tie
 
 abbrev Inv-loop : tie.InvT-loop
 Inv-loop k₀ b₀ n₀ k b n = (n ≤ 50) × (length k ≡ 16) × (length b ≡ 16)
@@ -13,8 +13,8 @@ Inv-loop k₀ b₀ n₀ k b n = (n ≤ 50) × (length k ≡ 16) × (length b ≡
 abbrev μ-loop : tie.MeasureT-loop
 μ-loop k₀ b₀ n₀ k b n = 50 - n
 
-pub unchain-spec : {M : Type 1} → statement M
-unchain-spec =
+pub show-unchain-spec : {M : Type 1} → statement M
+show-unchain-spec =
     tie.close
     (tie.spec
     Inv-loop

@@ -1,11 +1,11 @@
--- `chain` ends.
+-- `show_chain` ends.
 use Prim.Native.Nat.{_≤_, _-_}
 use native.Mathlib.Omega.{arith}
 use mathlib.Core.Path.{_≡_}
 use borrow.Author.Needs.{needs}
 use lib.ListN.{length}
-use Rattle.cipher_vectors.proofs.chain.Statement.{statement}
-use Rattle.cipher_vectors.proofs.chain.Tie as tie
+use Rattle.cipher_vectors.proofs.show_chain.Statement.{statement}
+use Rattle.cipher_vectors.proofs.show_chain.Tie as tie
 
 abbrev Inv-loop : tie.InvT-loop
 Inv-loop k₀ b₀ n₀ k b n = (n ≤ 50) × (length k ≡ 16) × (length b ≡ 16)
@@ -13,8 +13,8 @@ Inv-loop k₀ b₀ n₀ k b n = (n ≤ 50) × (length k ≡ 16) × (length b ≡
 abbrev μ-loop : tie.MeasureT-loop
 μ-loop k₀ b₀ n₀ k b n = 50 - n
 
-pub chain-spec : {M : Type 1} → statement M
-chain-spec =
+pub show-chain-spec : {M : Type 1} → statement M
+show-chain-spec =
     tie.close
     (tie.spec
     Inv-loop

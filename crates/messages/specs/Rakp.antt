@@ -27,7 +27,15 @@ checked at names fixed number value m =
 abbrev pub statusAt2 : ℕ
 statusAt2 = 2
 
--- message 2: the tag; the console's id at 4, the system's random number at 8, its GUID at 24, its code from 40 on
+-- where message 2's code begins: the length of its fixed part
+abbrev pub codeAt2 : ℕ
+codeAt2 = 40
+
+-- where message 4's check value begins, likewise
+abbrev pub valueAt4 : ℕ
+valueAt4 = 8
+
+-- message 2: the tag; the console's id at 4, the system's random number at 8, its GUID at 24, its code last
 unfoldable pub fields2 : List ℕ → RakpMessage2
 fields2 m =
     record {
@@ -35,11 +43,11 @@ fields2 m =
       console = unle (part m 4 4);
       random = part m 8 16;
       guid = part m 24 16;
-      code = record { at = 40; len = length m - 40 };
+      code = record { at = codeAt2; len = length m - codeAt2 };
     }
 
 unfoldable pub message2 : List ℕ → Res RakpMessage2
-message2 m = andThen (checked statusAt2 names2 40 20 0 m) (λ _. accept (fields2 m))
+message2 m = andThen (checked statusAt2 names2 codeAt2 20 0 m) (λ _. accept (fields2 m))
 
 -- what a refused message 2 hands out
 unfoldable pub none2 : RakpMessage2
@@ -52,12 +60,12 @@ none2 =
       code = record { at = 0; len = 0 };
     }
 
--- message 4: the tag; an id at 4; the check value from 8 on
+-- message 4: the tag; an id at 4; the check value last
 unfoldable pub fields4 : List ℕ → RakpMessage4
-fields4 m = record { tag = getD m 0 0; id = unle (part m 4 4); value = record { at = 8; len = length m - 8 } }
+fields4 m = record { tag = getD m 0 0; id = unle (part m 4 4); value = record { at = valueAt4; len = length m - valueAt4 } }
 
 unfoldable pub message4 : List ℕ → Res RakpMessage4
-message4 m = andThen (checked 1 names4 8 21 0 m) (λ _. accept (fields4 m))
+message4 m = andThen (checked 1 names4 valueAt4 21 0 m) (λ _. accept (fields4 m))
 
 -- message 1: tag, three zeros, system id, the console's random number, role, two zeros, the name's length, the name
 unfoldable pub message1 : RakpMessage1 → List ℕ

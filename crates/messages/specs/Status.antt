@@ -1,6 +1,6 @@
 -- Statuses (docs/RULES.md, 7.7; the Standard, 13.24): which of them have a name, in which message.
 use Prim.Native.Nat.{ℕ}
-use mathlib.Core.Bool.{Bool, true, false, _||_}
+use mathlib.Core.Bool.{Bool, cond, _||_}
 use mathlib.Core.List.{List, [], _∷_}
 use Rattle.refusal.specs.Table.{among}
 
@@ -20,10 +20,10 @@ names2 = 0x03 ∷ 0x09 ∷ 0x0a ∷ 0x0b ∷ 0x0c ∷ 0x0d ∷ []
 abbrev pub names4 : List ℕ
 names4 = 0x08 ∷ 0x0f ∷ []
 
+-- 17 for a status that has a name, 18 for one that has none
 abbrev pub numberIf : Bool → ℕ
-numberIf true = 17
-numberIf false = 18
+numberIf named = cond named 17 18
 
--- the number of the refusal for the status b: 17 where b has a name, 18 where it has none
+-- the number of the refusal for the status b, in a message with these names besides the common ones
 unfoldable pub statusNumber : List ℕ → ℕ → ℕ
 statusNumber names b = numberIf (among b common || among b names)

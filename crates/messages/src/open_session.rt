@@ -18,6 +18,11 @@ use crate::rakp::Test;
 use crate::rakp::Written;
 use refusal::Refusal;
 
+// The lengths of the request and of the response.
+const REQUEST_LEN: usize = 32;
+
+const RESPONSE_LEN: usize = 36;
+
 // Statuses that have a name here besides the common ones.
 const NAMES: [u8; 8] = [0x03, 0x04, 0x05, 0x06, 0x07, 0x09, 0x10, 0x11];
 
@@ -33,7 +38,8 @@ pub enum BlockAnswer {
     Refused(Refusal),
 }
 
-fn authentication_of(code: u8) -> BlockAnswer
+// The algorithm that a code names, in a block of each type.
+fn find_authentication(code: u8) -> BlockAnswer
     ensures { λ r. ⌜ toldBlock r ≡ known 0 code ⌝ }
 {
     match code {
@@ -53,7 +59,7 @@ fn authentication_of(code: u8) -> BlockAnswer
     }
 }
 
-fn integrity_of(code: u8) -> BlockAnswer
+fn find_integrity(code: u8) -> BlockAnswer
     ensures { λ r. ⌜ toldBlock r ≡ known 1 code ⌝ }
 {
     match code {
@@ -66,7 +72,7 @@ fn integrity_of(code: u8) -> BlockAnswer
     }
 }
 
-fn confidentiality_of(code: u8) -> BlockAnswer
+fn find_confidentiality(code: u8) -> BlockAnswer
     ensures { λ r. ⌜ toldBlock r ≡ known 2 code ⌝ }
 {
     match code {
@@ -106,13 +112,13 @@ impl AlgorithmPayload {
         }
         let ty = block[0];
         if ty == 0 {
-            return authentication_of(block[4]);
+            return find_authentication(block[4]);
         }
         if ty == 1 {
-            return integrity_of(block[4]);
+            return find_integrity(block[4]);
         }
         if ty == 2 {
-            return confidentiality_of(block[4]);
+            return find_confidentiality(block[4]);
         }
         BlockAnswer::Refused(Refusal::UnknownBlockType(ty))
     }
@@ -124,7 +130,8 @@ pub enum RequestedPrivilege {
     Level(u8),
 }
 
-fn level_byte(level: RequestedPrivilege) -> u8
+// The level as the request has it.
+fn encode_level(level: RequestedPrivilege) -> u8
     ensures { λ r. ⌜ r ≡ levelByte level ⌝ }
 {
     match level {
@@ -143,7 +150,7 @@ pub struct OpenSessionRequest {
 }
 
 // Four pieces of eight bytes, one after another.
-fn put_all(out: &mut [u8], head: [u8; 8], first: [u8; 8], second: [u8; 8], third: [u8; 8])
+fn put_pieces(out: &mut [u8], head: [u8; 8], first: [u8; 8], second: [u8; 8], third: [u8; 8])
     requires { ⌜ 32 ≤ length (now out) ⌝ }
     ensures { λ _. ⌜ now (out .exit) ≡ begun (head ++ first ++ second ++ third) (now (out .entry)) ⌝ }
 {
@@ -157,21 +164,21 @@ impl OpenSessionRequest {
     pub fn write_data(self, out: &mut [u8]) -> Written
         ensures { λ r. ⌜ WritePromise (openRequest self) (now (out .entry)) r (now (out .exit)) ⌝ }
     {
-        if out.len() < 32 {
+        if out.len() < REQUEST_LEN {
             return Written::Refused(Refusal::OutputTooShort);
         }
         let level = self.level;
         let a = self.authentication;
         let i = self.integrity;
         let c = self.confidentiality;
-        put_all(
+        put_pieces(
             out,
-            rakp::begin(self.tag, level_byte(level), 0, 0, self.console),
+            rakp::make_head(self.tag, encode_level(level), 0, 0, self.console),
             AlgorithmPayload::Authentication(a).write(),
             AlgorithmPayload::Integrity(i).write(),
             AlgorithmPayload::Confidentiality(c).write(),
         );
-        Written::Bytes(32)
+        Written::Bytes(REQUEST_LEN)
     }
 }
 
@@ -206,7 +213,7 @@ enum ConfidentialityAnswer {
 }
 
 // The block in the place of authentication.
-fn authentication(block: &[u8]) -> AuthenticationAnswer
+fn read_authentication(block: &[u8]) -> AuthenticationAnswer
     ensures { λ r. ⌜ toldAuthentication r ≡ ofType 0 (blockOf (now (block .entry))) ⌝ }
 {
     match AlgorithmPayload::from_data(block) {
@@ -224,7 +231,7 @@ fn authentication(block: &[u8]) -> AuthenticationAnswer
 }
 
 // The block in the place of integrity.
-fn integrity(block: &[u8]) -> IntegrityAnswer
+fn read_integrity(block: &[u8]) -> IntegrityAnswer
     ensures { λ r. ⌜ toldIntegrity r ≡ ofType 1 (blockOf (now (block .entry))) ⌝ }
 {
     match AlgorithmPayload::from_data(block) {
@@ -242,7 +249,7 @@ fn integrity(block: &[u8]) -> IntegrityAnswer
 }
 
 // The block in the place of confidentiality.
-fn confidentiality(block: &[u8]) -> ConfidentialityAnswer
+fn read_confidentiality(block: &[u8]) -> ConfidentialityAnswer
     ensures { λ r. ⌜ toldConfidentiality r ≡ ofType 2 (blockOf (now (block .entry))) ⌝ }
 {
     match AlgorithmPayload::from_data(block) {
@@ -260,7 +267,7 @@ fn confidentiality(block: &[u8]) -> ConfidentialityAnswer
 }
 
 // The tests on what stands before the blocks.
-fn checked(message: &[u8]) -> Test
+fn check_head(message: &[u8]) -> Test
     ensures { λ r. ⌜ tested r ≡ openChecked (now (message .entry)) ⌝ }
 {
     if message.len() < 2 {
@@ -268,9 +275,9 @@ fn checked(message: &[u8]) -> Test
     }
     let status = message[1];
     if status != 0 {
-        return Test::Refused(rakp::refused(status, &NAMES));
+        return Test::Refused(rakp::refuse_status(status, &NAMES));
     }
-    if message.len() != 36 {
+    if message.len() != RESPONSE_LEN {
         return Test::Refused(Refusal::NotEnoughData);
     }
     let level = message[2];
@@ -287,17 +294,17 @@ fn checked(message: &[u8]) -> Test
 }
 
 // The blocks in turn, and then the response.
-fn fields(message: &[u8]) -> OpenSessionAnswer
+fn read_blocks(message: &[u8]) -> OpenSessionAnswer
     requires { ⌜ length (now message) ≡ 36 ⌝ }
     ensures { λ r. ⌜ toldOpen r ≡ openFields (now (message .entry)) ⌝ }
 {
-    match authentication(&message[12..20]) {
+    match read_authentication(&message[12..20]) {
         AuthenticationAnswer::Refused(r) => OpenSessionAnswer::Refused(r),
-        AuthenticationAnswer::Found(a) => match integrity(&message[20..28]) {
+        AuthenticationAnswer::Found(a) => match read_integrity(&message[20..28]) {
             IntegrityAnswer::Refused(r) => OpenSessionAnswer::Refused(r),
-            IntegrityAnswer::Found(i) => match confidentiality(&message[28..36]) {
+            IntegrityAnswer::Found(i) => match read_confidentiality(&message[28..RESPONSE_LEN]) {
                 ConfidentialityAnswer::Refused(r) => OpenSessionAnswer::Refused(r),
-                ConfidentialityAnswer::Found(c) => OpenSessionAnswer::Response(response(
+                ConfidentialityAnswer::Found(c) => OpenSessionAnswer::Response(make_response(
                     message,
                     a,
                     i,
@@ -308,7 +315,8 @@ fn fields(message: &[u8]) -> OpenSessionAnswer
     }
 }
 
-fn response(
+// The response of a message that has all of its bytes, with the algorithms that its blocks name.
+fn make_response(
     message: &[u8],
     a: AuthenticationAlgorithm,
     i: IntegrityAlgorithm,
@@ -332,9 +340,9 @@ impl OpenSessionResponse {
     pub fn from_data(message: &[u8]) -> OpenSessionAnswer
         ensures { λ r. ⌜ toldOpen r ≡ openResponse (now (message .entry)) ⌝ }
     {
-        match checked(message) {
+        match check_head(message) {
             Test::Refused(r) => OpenSessionAnswer::Refused(r),
-            Test::Passed => fields(message),
+            Test::Passed => read_blocks(message),
         }
     }
 }

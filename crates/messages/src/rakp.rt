@@ -27,10 +27,14 @@ pub struct Place {
     pub len: usize,
 }
 
+// How many bytes stand in front in every message that we write: four and an id.
+pub(crate) const HEAD: usize = 8;
+
 // Statuses that have a name in every message.
 const COMMON: [u8; 3] = [0x01, 0x02, 0x12];
 
-fn listed(b: u8, list: &[u8]) -> bool
+// Whether b is in the list.
+fn is_listed(b: u8, list: &[u8]) -> bool
     ensures { λ r. ⌜ r ≡ among b (now (list .entry)) ⌝ }
 {
     let mut i: usize = 0;
@@ -44,20 +48,26 @@ fn listed(b: u8, list: &[u8]) -> bool
 }
 
 // The refusal for a status that is not zero, in a message that has names for `names` too.
-pub(crate) fn refused(status: u8, names: &[u8]) -> Refusal
+pub(crate) fn refuse_status(status: u8, names: &[u8]) -> Refusal
     ensures { λ r. ⌜ (numberOf r ≡ statusNumber (now (names .entry)) status) × (valueOf r ≡ status) ⌝ }
 {
-    if listed(status, &COMMON) {
+    if is_listed(status, &COMMON) {
         return Refusal::NamedStatus(status);
     }
-    if listed(status, names) {
+    if is_listed(status, names) {
         return Refusal::NamedStatus(status);
     }
     Refusal::UnnamedStatus(status)
 }
 
 // The tests of messages 2 and 4 on what stands in front: the length, the status, the fixed part's length, the id.
-pub(crate) fn checked(message: &[u8], at: usize, names: &[u8], fixed: usize, zero: Refusal) -> Test
+pub(crate) fn check_head(
+    message: &[u8],
+    at: usize,
+    names: &[u8],
+    fixed: usize,
+    zero: Refusal,
+) -> Test
     requires { ⌜ at < 4 ⌝ }
     ensures { λ r. ⌜ tested r ≡ checked at (now (names .entry)) fixed (numberOf zero) (valueOf zero) (now (message .entry)) ⌝ }
 {
@@ -66,7 +76,7 @@ pub(crate) fn checked(message: &[u8], at: usize, names: &[u8], fixed: usize, zer
     }
     let status = message[at];
     if status != 0 {
-        return Test::Refused(refused(status, names));
+        return Test::Refused(refuse_status(status, names));
     }
     if message.len() < fixed {
         return Test::Refused(Refusal::NotEnoughData);
@@ -78,7 +88,7 @@ pub(crate) fn checked(message: &[u8], at: usize, names: &[u8], fixed: usize, zer
 }
 
 // Four bytes and an id, as every message that we write begins.
-pub(crate) fn begin(a: u8, b: u8, c: u8, d: u8, id: u32) -> [u8; 8]
+pub(crate) fn make_head(a: u8, b: u8, c: u8, d: u8, id: u32) -> [u8; 8]
     ensures { λ r. ⌜ r ≡ a ∷ b ∷ c ∷ d ∷ le 4 id ⌝ }
 {
     let n = octets::le4(id);

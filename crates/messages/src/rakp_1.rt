@@ -12,6 +12,11 @@ use crate::rakp::Test;
 use crate::rakp::Written;
 use refusal::Refusal;
 
+// Where the role stands, and where the name: behind the head, the random number and the role's four bytes.
+const ROLE_AT: usize = 24;
+
+const NAME_AT: usize = 28;
+
 // A name: its first `len` bytes, or all sixteen where `len` is more.
 pub struct Username {
     pub bytes: [u8; 16],
@@ -24,7 +29,7 @@ pub struct UsernameAnswer {
 }
 
 // Whether every byte is ASCII and none is zero.
-fn allowed(name: &[u8]) -> bool
+fn is_allowed(name: &[u8]) -> bool
     ensures { λ r. ⌜ r ≡ allowed (now (name .entry)) ⌝ }
 {
     let mut i: usize = 0;
@@ -46,14 +51,14 @@ impl Username {
         ensures { λ r. ⌜ NamePromise (usernameOf (now (name .entry))) r ⌝ }
     {
         if name.len() < 16 {
-            return first(name, name.len());
+            return take_name(name, name.len());
         }
-        first(name, 16)
+        take_name(name, 16)
     }
 }
 
 // How many bytes the name has.
-fn name_len(u: Username) -> usize
+fn count_name(u: Username) -> usize
     ensures { λ r. ⌜ (r ≡ length (nameOf u)) × (r ≤ 16) × (take r (u .bytes) ≡ nameOf u) ⌝ }
 {
     if 16 < u.len {
@@ -62,12 +67,13 @@ fn name_len(u: Username) -> usize
     u.len
 }
 
-fn first(name: &[u8], n: usize) -> UsernameAnswer
+// The first n bytes of what was typed, which are those that count, as a name.
+fn take_name(name: &[u8], n: usize) -> UsernameAnswer
     requires { ⌜ (n ≤ length (now name)) × (n ≤ 16) × (take 16 (now name) ≡ take n (now name)) ⌝ }
     ensures { λ r. ⌜ NamePromise (usernameOf (now (name .entry))) r ⌝ }
 {
     let mut bytes = [0u8; 16];
-    if !allowed(&name[..n]) {
+    if !is_allowed(&name[..n]) {
         return UsernameAnswer {
             answer: Test::Refused(Refusal::InvalidUsername),
             username: Username { bytes, len: 0 },
@@ -89,14 +95,21 @@ pub struct RakpMessage1 {
 }
 
 // The four pieces, one after another; of the name its first n bytes.
-fn put_all(out: &mut [u8], head: [u8; 8], random: [u8; 16], role: [u8; 4], name: [u8; 16], n: usize)
+fn put_pieces(
+    out: &mut [u8],
+    head: [u8; 8],
+    random: [u8; 16],
+    role: [u8; 4],
+    name: [u8; 16],
+    n: usize,
+)
     requires { ⌜ (n ≤ 16) × (28 + n ≤ length (now out)) ⌝ }
     ensures { λ _. ⌜ now (out .exit) ≡ begun (head ++ random ++ role ++ take n name) (now (out .entry)) ⌝ }
 {
     octets::put(out, 0, &head);
-    octets::put(out, 8, &random);
-    octets::put(out, 24, &role);
-    octets::put(out, 28, &name[..n]);
+    octets::put(out, rakp::HEAD, &random);
+    octets::put(out, ROLE_AT, &role);
+    octets::put(out, NAME_AT, &name[..n]);
 }
 
 impl RakpMessage1 {
@@ -106,18 +119,18 @@ impl RakpMessage1 {
         let name = self.username;
         let bytes = name.bytes;
         let random = self.random;
-        let n = name_len(name);
-        if out.len() < 28 + n {
+        let n = count_name(name);
+        if out.len() < NAME_AT + n {
             return Written::Refused(Refusal::OutputTooShort);
         }
-        put_all(
+        put_pieces(
             out,
-            rakp::begin(self.tag, 0, 0, 0, self.system),
+            rakp::make_head(self.tag, 0, 0, 0, self.system),
             random,
             [self.role, 0, 0, n as u8],
             bytes,
             n,
         );
-        Written::Bytes(28 + n)
+        Written::Bytes(NAME_AT + n)
     }
 }

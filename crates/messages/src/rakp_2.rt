@@ -9,8 +9,10 @@ use crate::rakp::Place;
 use crate::rakp::Test;
 use refusal::Refusal;
 
-// Where the status stands, and the statuses that have a name here besides the common ones.
+// Where the status stands, where the code begins, and the statuses that have a name here besides the common ones.
 const STATUS_AT: usize = 2;
+
+const CODE_AT: usize = 40;
 
 const NAMES: [u8; 6] = [0x03, 0x09, 0x0a, 0x0b, 0x0c, 0x0d];
 
@@ -28,7 +30,8 @@ pub struct RakpAnswer2 {
     pub message: RakpMessage2,
 }
 
-fn fields(message: &[u8]) -> RakpMessage2
+// The fields of a message that has all of its fixed part.
+fn read_fields(message: &[u8]) -> RakpMessage2
     requires { ⌜ 40 ≤ length (now message) ⌝ }
     ensures { λ r. ⌜ r ≡ fields2 (now (message .entry)) ⌝ }
 {
@@ -40,13 +43,14 @@ fn fields(message: &[u8]) -> RakpMessage2
         random,
         guid,
         code: Place {
-            at: 40,
-            len: message.len() - 40,
+            at: CODE_AT,
+            len: message.len() - CODE_AT,
         },
     }
 }
 
-fn none() -> RakpMessage2
+// What a refused message hands out.
+fn make_blank() -> RakpMessage2
     ensures { λ r. ⌜ r ≡ none2 ⌝ }
 {
     RakpMessage2 {
@@ -62,20 +66,20 @@ impl RakpMessage2 {
     pub fn from_data(message: &[u8]) -> RakpAnswer2
         ensures { λ r. ⌜ ReadPromise2 (message2 (now (message .entry))) r ⌝ }
     {
-        match rakp::checked(
+        match rakp::check_head(
             message,
             STATUS_AT,
             &NAMES,
-            40,
+            CODE_AT,
             Refusal::ZeroRemoteConsoleSessionId,
         ) {
             Test::Refused(r) => RakpAnswer2 {
                 answer: Test::Refused(r),
-                message: none(),
+                message: make_blank(),
             },
             Test::Passed => RakpAnswer2 {
                 answer: Test::Passed,
-                message: fields(message),
+                message: read_fields(message),
             },
         }
     }

@@ -18,26 +18,26 @@ impl RakpMessage3 {
     pub fn write(self, code: &[u8], out: &mut [u8]) -> Written
         ensures { λ r. ⌜ WritePromise (message3 self (now (code .entry))) (now (out .entry)) r (now (out .exit)) ⌝ }
     {
-        if out.len() < 8 {
+        if out.len() < rakp::HEAD {
             return Written::Refused(Refusal::OutputTooShort);
         }
-        if out.len() - 8 < code.len() {
+        if out.len() - rakp::HEAD < code.len() {
             return Written::Refused(Refusal::OutputTooShort);
         }
-        let head = rakp::begin(self.tag, 0, 0, 0, self.system);
+        let head = rakp::make_head(self.tag, 0, 0, 0, self.system);
         octets::put(out, 0, &head);
-        octets::put(out, 8, code);
-        Written::Bytes(8 + code.len())
+        octets::put(out, rakp::HEAD, code);
+        Written::Bytes(rakp::HEAD + code.len())
     }
 
     // The message that declines the exchange.
     pub fn decline(self, out: &mut [u8]) -> Written
         ensures { λ r. ⌜ WritePromise (declined3 self) (now (out .entry)) r (now (out .exit)) ⌝ }
     {
-        let head = rakp::begin(self.tag, DECLINED, 0, 0, self.system);
+        let head = rakp::make_head(self.tag, DECLINED, 0, 0, self.system);
         if !octets::put(out, 0, &head) {
             return Written::Refused(Refusal::OutputTooShort);
         }
-        Written::Bytes(8)
+        Written::Bytes(rakp::HEAD)
     }
 }

@@ -7,8 +7,10 @@ use crate::rakp::Place;
 use crate::rakp::Test;
 use refusal::Refusal;
 
-// Where the status stands, and the statuses that have a name here besides the common ones.
+// Where the status stands, where the check value begins, and the statuses that have a name here besides the common ones.
 const STATUS_AT: usize = 1;
+
+const VALUE_AT: usize = 8;
 
 const NAMES: [u8; 2] = [0x08, 0x0f];
 
@@ -27,11 +29,11 @@ impl RakpMessage4 {
     pub fn from_data(message: &[u8]) -> RakpAnswer4
         ensures { λ r. ⌜ told4 r ≡ message4 (now (message .entry)) ⌝ }
     {
-        match rakp::checked(
+        match rakp::check_head(
             message,
             STATUS_AT,
             &NAMES,
-            8,
+            VALUE_AT,
             Refusal::ZeroManagedSystemSessionId,
         ) {
             Test::Refused(r) => RakpAnswer4::Refused(r),
@@ -39,8 +41,8 @@ impl RakpMessage4 {
                 tag: message[0],
                 id: octets::load_le4(message, 4),
                 value: Place {
-                    at: 8,
-                    len: message.len() - 8,
+                    at: VALUE_AT,
+                    len: message.len() - VALUE_AT,
                 },
             }),
         }

@@ -31,16 +31,16 @@ pub const NAME: u8 = 6;
 // The same with CUT added: the length is varied.
 pub const CUT: u8 = 8;
 
-fn refused(r: Refusal) -> Told {
+fn tell_refusal(r: Refusal) -> Told {
     Told {
         number: r.number() as u64,
         value: r.value() as u64,
     }
 }
 
-fn open(message: &[u8]) -> Told {
+fn try_open(message: &[u8]) -> Told {
     match OpenSessionResponse::from_data(message) {
-        OpenSessionAnswer::Refused(r) => refused(r),
+        OpenSessionAnswer::Refused(r) => tell_refusal(r),
         OpenSessionAnswer::Response(m) => Told {
             number: 0,
             value: m.tag as u64,
@@ -48,12 +48,12 @@ fn open(message: &[u8]) -> Told {
     }
 }
 
-fn message_2(message: &[u8]) -> Told {
+fn try_message_2(message: &[u8]) -> Told {
     let read = RakpMessage2::from_data(message);
     let answer = read.answer;
     let m = read.message;
     match answer {
-        Test::Refused(r) => refused(r),
+        Test::Refused(r) => tell_refusal(r),
         Test::Passed => Told {
             number: 0,
             value: m.tag as u64,
@@ -61,9 +61,9 @@ fn message_2(message: &[u8]) -> Told {
     }
 }
 
-fn message_4(message: &[u8]) -> Told {
+fn try_message_4(message: &[u8]) -> Told {
     match RakpMessage4::from_data(message) {
-        RakpAnswer4::Refused(r) => refused(r),
+        RakpAnswer4::Refused(r) => tell_refusal(r),
         RakpAnswer4::Message(m) => Told {
             number: 0,
             value: m.tag as u64,
@@ -71,7 +71,7 @@ fn message_4(message: &[u8]) -> Told {
     }
 }
 
-fn code(p: AlgorithmPayload) -> u8 {
+fn code_of(p: AlgorithmPayload) -> u8 {
     match p {
         AlgorithmPayload::Authentication(a) => a.code(),
         AlgorithmPayload::Integrity(i) => i.code(),
@@ -79,22 +79,22 @@ fn code(p: AlgorithmPayload) -> u8 {
     }
 }
 
-fn block(b: &[u8]) -> Told {
+fn try_block(b: &[u8]) -> Told {
     match AlgorithmPayload::from_data(b) {
-        BlockAnswer::Refused(r) => refused(r),
+        BlockAnswer::Refused(r) => tell_refusal(r),
         BlockAnswer::Block(p) => Told {
             number: 0,
-            value: code(p) as u64,
+            value: code_of(p) as u64,
         },
     }
 }
 
-fn name(n: &[u8]) -> Told {
+fn try_name(n: &[u8]) -> Told {
     let made = Username::new(n);
     let answer = made.answer;
     let username = made.username;
     match answer {
-        Test::Refused(r) => refused(r),
+        Test::Refused(r) => tell_refusal(r),
         Test::Passed => Told {
             number: 0,
             value: username.len as u64,
@@ -111,7 +111,7 @@ const BYTES_2: [u8; 64] =
 const BYTES_4: [u8; 64] =
     *b"\x0a\0\0\0\xa4\0\0\0abcdefghijklmnopABCDEFGHIJKLMNOPqrstuvwxyzQRSTUVWXYZ;,.:";
 
-fn bytes_block(ty: u8) -> [u8; 64] {
+fn make_block(ty: u8) -> [u8; 64] {
     let mut b = [0u8; 64];
     b[0] = ty;
     b[3] = 8;
@@ -120,20 +120,20 @@ fn bytes_block(ty: u8) -> [u8; 64] {
 }
 
 // The bytes that a kind of cases starts from.
-fn template(kind: u8) -> [u8; 64] {
+fn make_bytes(kind: u8) -> [u8; 64] {
     match kind {
         0 => OPEN_BYTES,
         1 => BYTES_2,
         2 => BYTES_4,
-        3 => bytes_block(0),
-        4 => bytes_block(1),
-        5 => bytes_block(2),
+        3 => make_block(0),
+        4 => make_block(1),
+        5 => make_block(2),
         _ => [b'n'; 64],
     }
 }
 
 // How many of them are the message; of the name one more than counts.
-fn size(kind: u8) -> usize
+fn size_of(kind: u8) -> usize
     ensures { λ r. ⌜ r ≤ 64 ⌝ }
 {
     match kind {
@@ -145,64 +145,66 @@ fn size(kind: u8) -> usize
     }
 }
 
-fn read(kind: u8, s: &[u8]) -> Told {
+fn try_kind(kind: u8, s: &[u8]) -> Told {
     match kind {
-        0 => open(s),
-        1 => message_2(s),
-        2 => message_4(s),
-        6 => name(s),
-        _ => block(s),
+        0 => try_open(s),
+        1 => try_message_2(s),
+        2 => try_message_4(s),
+        6 => try_name(s),
+        _ => try_block(s),
     }
 }
 
-fn lend(kind: u8, bytes: [u8; 64], n: usize) -> Told
+fn lend_first(kind: u8, bytes: [u8; 64], n: usize) -> Told
     requires { ⌜ n ≤ 64 ⌝ }
 {
-    read(kind, &bytes[..n])
+    try_kind(kind, &bytes[..n])
 }
 
 // The case n of a kind: the byte at `at` is n, or the first n bytes are lent.
-pub fn case(kind: u8, at: usize, n: usize) -> Told {
-    let mut bytes = template(kind % CUT);
+pub fn try_case(kind: u8, at: usize, n: usize) -> Told {
+    let mut bytes = make_bytes(kind % CUT);
     if kind < CUT {
         bytes[at % 64] = (n % 256) as u8;
-        return lend(kind, bytes, size(kind));
+        return lend_first(kind, bytes, size_of(kind));
     }
     if 64 < n {
-        return lend(kind % CUT, bytes, 64);
+        return lend_first(kind % CUT, bytes, 64);
     }
-    lend(kind % CUT, bytes, n)
+    lend_first(kind % CUT, bytes, n)
 }
 
 // The open response of the Rust's test.
-pub fn open_case() {
+pub fn show_open_case() {
     let message =
         b"\x00\x00\x04\x00\xa4\xa3\xa2\x0a\xe0\x34\x71\x4a\x00\x00\x00\x08\x01\x00\x00\x00\x01\x00\x00\x08\x01\x00\x00\x00\x02\x00\x00\x08\x00\x00\x00\x00";
     io::write_all(OUT, b"open response:");
     match OpenSessionResponse::from_data(message) {
-        OpenSessionAnswer::Refused(r) => print::number(b"refused", r.number() as u64),
-        OpenSessionAnswer::Response(m) => response(m),
+        OpenSessionAnswer::Refused(r) => print::show_number(b"refused", r.number() as u64),
+        OpenSessionAnswer::Response(m) => show_response(m),
     }
     io::write_all(OUT, b"\n");
 }
 
-fn response(m: OpenSessionResponse) {
+fn show_response(m: OpenSessionResponse) {
     let a = m.authentication;
     let i = m.integrity;
     let c = m.confidentiality;
-    print::number(b"tag", m.tag as u64);
-    print::number(b"level", m.level as u64);
-    print::number(b"console", m.console as u64);
-    print::number(b"system", m.system as u64);
-    print::number(b"authentication", a.code() as u64);
-    print::number(b"integrity", i.code() as u64);
-    print::number(b"confidentiality", c.code() as u64);
+    print::show_number(b"tag", m.tag as u64);
+    print::show_number(b"level", m.level as u64);
+    print::show_number(b"console", m.console as u64);
+    print::show_number(b"system", m.system as u64);
+    print::show_number(b"authentication", a.code() as u64);
+    print::show_number(b"integrity", i.code() as u64);
+    print::show_number(b"confidentiality", c.code() as u64);
 }
 
 // Message 2 of the Rust's test.
-pub fn message_2_case() {
+pub fn show_message_2_case() {
     let message =
-        b"\x00\x00\x00\x00\xa4\xa3\xa2\xa0\xe8\x2c\x00\x00\x42\x72\x00\x00\x59\x18\x00\x00\xac\x04\x00\x00\x00\x00\x00\x00\x00\x00\x00\x00\x00\x00\x00\x00\x00\x00\x00\x00\x6b\x61\xba\x25\xc8\x22\x4e\x32\x78\x63\x62\x6b\x30\x7c\x8d\xc8\x15\x22\x90\x91";
+        b"\x00\x00\x00\x00\xa4\xa3\xa2\xa0\xe8\x2c\x00\x00\x42\x72\x00\x00\x59\x18\x00\x00\
+        \xac\x04\x00\x00\x00\x00\x00\x00\x00\x00\x00\x00\x00\x00\x00\x00\x00\x00\x00\x00\
+        \x6b\x61\xba\x25\xc8\x22\x4e\x32\x78\x63\x62\x6b\x30\x7c\x8d\xc8\x15\x22\x90\x91";
     show_2(b"message 2:", message);
     show_2(b"message 2, other bytes:", &BYTES_2);
     show_2(b"message 2, refused:", &BYTES_2[..39]);
@@ -216,28 +218,28 @@ fn show_2(label: &[u8], message: &[u8]) {
     let random = m.random;
     let guid = m.guid;
     let place = m.code;
-    print::number(b"tag", m.tag as u64);
-    print::number(b"console", m.console as u64);
-    print::hex_16(b" random ", random);
-    print::hex_16(b" guid ", guid);
-    print::number(b"code at", place.at as u64);
-    print::number(b"of", place.len as u64);
+    print::show_number(b"tag", m.tag as u64);
+    print::show_number(b"console", m.console as u64);
+    print::show_hex_16(b" random ", random);
+    print::show_hex_16(b" guid ", guid);
+    print::show_number(b"code at", place.at as u64);
+    print::show_number(b"of", place.len as u64);
     io::write_all(OUT, b"\n");
 }
 
 fn show_4(label: &[u8], message: &[u8]) {
     io::write_all(OUT, label);
     match RakpMessage4::from_data(message) {
-        RakpAnswer4::Refused(r) => print::number(b"refused", r.number() as u64),
-        RakpAnswer4::Message(m) => fields_4(m),
+        RakpAnswer4::Refused(r) => print::show_number(b"refused", r.number() as u64),
+        RakpAnswer4::Message(m) => show_fields_4(m),
     }
     io::write_all(OUT, b"\n");
 }
 
-fn fields_4(m: RakpMessage4) {
+fn show_fields_4(m: RakpMessage4) {
     let place = m.value;
-    print::number(b"tag", m.tag as u64);
-    print::number(b"id", m.id as u64);
-    print::number(b"value at", place.at as u64);
-    print::number(b"of", place.len as u64);
+    print::show_number(b"tag", m.tag as u64);
+    print::show_number(b"id", m.id as u64);
+    print::show_number(b"value at", place.at as u64);
+    print::show_number(b"of", place.len as u64);
 }

@@ -20,7 +20,7 @@ pub const MESSAGE_3: u8 = 18;
 
 pub const DECLINED: u8 = 19;
 
-fn request(level: RequestedPrivilege) -> OpenSessionRequest {
+fn make_request(level: RequestedPrivilege) -> OpenSessionRequest {
     OpenSessionRequest {
         tag: 0,
         level,
@@ -32,7 +32,7 @@ fn request(level: RequestedPrivilege) -> OpenSessionRequest {
 }
 
 // Message 1 of the Rust's test, with a name of the given length.
-fn message_1(len: usize) -> RakpMessage1 {
+fn make_message_1(len: usize) -> RakpMessage1 {
     RakpMessage1 {
         tag: 0,
         system: 0x2f590161,
@@ -62,34 +62,34 @@ fn message_1(len: usize) -> RakpMessage1 {
     }
 }
 
-fn message_3() -> RakpMessage3 {
+fn make_message_3() -> RakpMessage3 {
     RakpMessage3 {
         tag: 0x0a,
         system: 0x2f590161,
     }
 }
 
-fn write(kind: u8, at: usize, out: &mut [u8]) -> Written {
+fn write_kind(kind: u8, at: usize, out: &mut [u8]) -> Written {
     if kind == REQUEST {
         if at == 0 {
-            return request(RequestedPrivilege::None).write_data(out);
+            return make_request(RequestedPrivilege::None).write_data(out);
         }
-        return request(RequestedPrivilege::Level(3)).write_data(out);
+        return make_request(RequestedPrivilege::Level(3)).write_data(out);
     }
     if kind == MESSAGE_1 {
-        return message_1(at).write(out);
+        return make_message_1(at).write(out);
     }
     if kind == MESSAGE_3 {
         if at == 20 {
-            return message_3().write(&[0x5cu8; 20], out);
+            return make_message_3().write(&[0x5cu8; 20], out);
         }
-        return message_3().write(&[0x5cu8; 32], out);
+        return make_message_3().write(&[0x5cu8; 32], out);
     }
-    message_3().decline(out)
+    make_message_3().decline(out)
 }
 
 // How many of the bytes are not AA.
-fn changed(s: &[u8]) -> usize {
+fn count_changed(s: &[u8]) -> usize {
     let mut k: usize = 0;
     let mut i: usize = 0;
     while i < s.len() {
@@ -101,19 +101,19 @@ fn changed(s: &[u8]) -> usize {
     k
 }
 
-fn attempt(kind: u8, at: usize, out: &mut [u8], n: usize) -> Written {
+fn try_write(kind: u8, at: usize, out: &mut [u8], n: usize) -> Written {
     if n < out.len() {
-        return write(kind, at, &mut out[..n]);
+        return write_kind(kind, at, &mut out[..n]);
     }
-    write(kind, at, out)
+    write_kind(kind, at, out)
 }
 
 // The writer of a kind with room for n bytes: the refusal's number and the bytes changed, or the length told; 999 where that is not
 // the number of bytes changed.
-pub fn case(kind: u8, at: usize, n: usize) -> Told {
+pub fn try_case(kind: u8, at: usize, n: usize) -> Told {
     let mut out = [0xaau8; 64];
-    let answer = attempt(kind, at, &mut out, n);
-    let k = changed(&out);
+    let answer = try_write(kind, at, &mut out, n);
+    let k = count_changed(&out);
     match answer {
         Written::Refused(r) => Told {
             number: r.number() as u64,
@@ -127,20 +127,20 @@ pub fn case(kind: u8, at: usize, n: usize) -> Told {
 }
 
 // The whole of the 64 bytes after a message was written.
-fn shown(label: &[u8], kind: u8, at: usize) {
+fn show_written(label: &[u8], kind: u8, at: usize) {
     let mut out = [0xaau8; 64];
-    write(kind, at, &mut out);
+    write_kind(kind, at, &mut out);
     io::write_all(OUT, label);
-    print::hex(&out);
+    print::show_hex(&out);
     io::write_all(OUT, b"\n");
 }
 
-pub fn cases() {
-    shown(b"open request, level 3: ", REQUEST, 1);
-    shown(b"open request, no level: ", REQUEST, 0);
-    shown(b"message 1: ", MESSAGE_1, 4);
-    shown(b"message 1, name of 16: ", MESSAGE_1, 16);
-    shown(b"message 1, name length 17: ", MESSAGE_1, 17);
-    shown(b"message 3: ", MESSAGE_3, 20);
-    shown(b"message 3, declining: ", DECLINED, 0);
+pub fn show_cases() {
+    show_written(b"open request, level 3: ", REQUEST, 1);
+    show_written(b"open request, no level: ", REQUEST, 0);
+    show_written(b"message 1: ", MESSAGE_1, 4);
+    show_written(b"message 1, name of 16: ", MESSAGE_1, 16);
+    show_written(b"message 1, name length 17: ", MESSAGE_1, 17);
+    show_written(b"message 3: ", MESSAGE_3, 20);
+    show_written(b"message 3, declining: ", DECLINED, 0);
 }

@@ -1,27 +1,28 @@
 -- What is written is read back, and what is read was written so: decimal, hex and eight hex digits. And the line of the
 -- first packet of the rules, character by character.
-use Prim.Native.Nat.{ℕ, zero, suc, _+_, _-_, _*_, _/_, _%_, _^_, _<_, _≤_}
+use Prim.Native.Nat.{ℕ, zero, suc, _+_, _*_, _/_, _%_, _^_, _<_, _≤_}
 use native.Mathlib.Omega.{arith}
-use mathlib.Core.Bool.{Bool, true, false, _&&_, cond, and-assoc}
+use mathlib.Core.Bool.{Bool, true, false, _&&_, cond}
 use mathlib.Core.List.{List, [], _∷_, _++_, append-nil}
-use mathlib.Core.Logic.{_⊎_, inl, inr, ⊎-elim}
+use mathlib.Core.Logic.{_⊎_, ⊎-elim}
 use mathlib.Core.Path.{_≡_, refl, sym, _∙_, ap, ap₂}
-use lib.Dec.{leb, ltb, eqb}
+use lib.Dec.{leb, eqb}
 use lib.ListN.{length, getD, List·getD-append}
 use lib.Seq.{append-snoc}
-use borrow.Author.Tests.{lt-ltb, le-leb, eq-eqb, eqb-true}
+use borrow.Author.Tests.{lt-ltb, le-leb, eqb-true}
 use Rattle.octets.specs.Bytes.{Bytes}
 use Rattle.octets.proofs.Bytes.{bytes-tail}
 use Rattle.octets.proofs.Order.{lt-or-le}
+use Rattle.octets.proofs.Equal.{and-inv}
 use Rattle.text.specs.Digits.{digit, worth, spelled, decimal, hex, hex8, digits, value, pairs}
-use Rattle.text.specs.Promise.{numeral, numberIn, wordIn, hexed}
+use Rattle.text.specs.Promise.{numberIn, wordIn, hexed}
 use Rattle.text.specs.Line.{lineOf}
 use Rattle.text.specs.declared.read.Number.the-variants as number
 use Rattle.text.specs.declared.read.Word.the-variants as word
-use Rattle.text.specs.declared.packet.Outcome.the-variants.{Packet}
-use Rattle.text.proofs.Digits.{digit-low, worth-digit, digit-worth}
+use Rattle.text.specs.declared.packet.Telling.the-variants.{Packet}
+use Rattle.text.proofs.Digits.{worth-digit, digit-worth}
 use Rattle.text.proofs.Tens.{decimal-small, decimal-more, decimal-some}
-use Rattle.text.proofs.Writing.{length-hex, length-hex8}
+use Rattle.text.proofs.Writing.{length-hex}
 use Rattle.text.proofs.Reading.{digits-both, hexed-yes, left, number-some}
 
 value-snoc : (b v : ℕ) (s : List ℕ) (c : ℕ) → value b v (s ++ (c ∷ [])) ≡ value b v s * b + worth c
@@ -48,8 +49,10 @@ spells (suc f) n h =
     (λ (s : 10 ≤ n).
     let r = spells f (n / 10) (omega arith) in
     let w : worth (digit (n % 10)) ≡ n % 10 = worth-digit (n % 10) (omega arith) in
-    let g : worth (digit (n % 10)) < 10 = omega arith in
-    (ap (digits 10) (decimal-more n s) ∙ digits-snoc 10 (decimal (n / 10)) (digit (n % 10)) (r .0) g, ap (value 10 0) (decimal-more n s) ∙ value-snoc 10 0 (decimal (n / 10)) (digit (n % 10)) ∙ omega (arith, r .1)))
+    let g : worth (digit (n % 10)) < 10 = omega arith in (
+      ap (digits 10) (decimal-more n s) ∙ digits-snoc 10 (decimal (n / 10)) (digit (n % 10)) (r .0) g,
+      ap (value 10 0) (decimal-more n s) ∙ value-snoc 10 0 (decimal (n / 10)) (digit (n % 10)) ∙ omega (arith, r .1),
+    ))
     (lt-or-le n 10)
 
 -- a number in decimal is digits, and they say that number
@@ -78,7 +81,8 @@ after v (c ∷ s) h e =
     let r : w % 10 ≡ worth c = omega (arith, t .0) in
     let d : digit (worth c) ≡ c = digit-worth c (omega (arith, t .0)) in
     after w s (omega arith) (t .1)
-    ∙ ap (λ (l : List ℕ). l ++ s) (decimal-more w (omega arith) ∙ ap₂ (λ (x y : ℕ). decimal x ++ (digit y ∷ [])) q r ∙ ap (λ (y : ℕ). decimal v ++ (y ∷ [])) d)
+    ∙ ap (λ (l : List ℕ). l ++ s)
+    (decimal-more w (omega arith) ∙ ap₂ (λ (x y : ℕ). decimal x ++ (digit y ∷ [])) q r ∙ ap (λ (y : ℕ). decimal v ++ (y ∷ [])) d)
     ∙ append-snoc (decimal v) c s
 
 -- digits with no zero in front, or a single digit, are what their number is in decimal
@@ -134,7 +138,8 @@ digits-hex (b ∷ l) h =
     let q = worth-digit (b % 16) (omega arith) in
     let u : worth (digit (b / 16)) < 16 = omega arith in
     let v : worth (digit (b % 16)) < 16 = omega arith in
-    ap₂ (λ (x y : Bool). x && (y && digits 16 (hex l))) (lt-ltb (worth (digit (b / 16))) 16 u) (lt-ltb (worth (digit (b % 16))) 16 v) ∙ digits-hex l (bytes-tail b l h)
+    ap₂ (λ (x y : Bool). x && (y && digits 16 (hex l))) (lt-ltb (worth (digit (b / 16))) 16 u) (lt-ltb (worth (digit (b % 16))) 16 v)
+    ∙ digits-hex l (bytes-tail b l h)
 
 pub hexed-hex : (l : List ℕ) → Bytes l → hexed (hex l) ≡ true
 hexed-hex l h = hexed-yes (hex l) (omega (arith, length-hex l)) (digits-hex l h)
@@ -152,14 +157,10 @@ hex-of (h ∷ l ∷ s) e f =
     ∙ ap₂ (λ (a b : ℕ). a ∷ b ∷ hex (pairs s)) (digit-worth h (t .0)) (digit-worth l (u .0))
     ∙ ap (λ (r : List ℕ). h ∷ l ∷ r) (hex-of s (omega arith) (u .1))
 
-both : (p q : Bool) → (p && q) ≡ true → (p ≡ true) × (q ≡ true)
-both true q e = (refl, e)
-both false q e = let z : _≡_ {A = ℕ} 0 1 = cc in absurd (omega arith)
-
 -- and what is read was bytes in hex
 pub hex-pairs : (s : List ℕ) → hexed s ≡ true → hex (pairs s) ≡ s
 unfolding hexed
-hex-pairs s e = let t = both (eqb (length s % 2) 0) (digits 16 s) e in hex-of s (eqb-true (length s % 2) 0 (t .0)) (t .1)
+hex-pairs s e = let t = and-inv (eqb (length s % 2) 0) (digits 16 s) e in hex-of s (eqb-true (length s % 2) 0 (t .0)) (t .1)
 
 -- a number of w hex digits is digits that say it
 spelled-digits : (w n : ℕ) → digits 16 (spelled 16 w n) ≡ true
@@ -199,7 +200,8 @@ pub hex8-unhex8 : (s : List ℕ) (n : ℕ) → wordIn s ≡ word.Value n → hex
 unfolding wordIn hex8
 hex8-unhex8 s n e = by-test (eqb (length s) 8) (digits 16 s) refl refl e
   where
-    by-test : (t u : Bool) → eqb (length s) 8 ≡ t → digits 16 s ≡ u → cond (t && u) (word.Value (value 16 0 s)) word.Bad ≡ word.Value n → spelled 16 8 n ≡ s
+    by-test : (t u : Bool) → eqb (length s) 8 ≡ t → digits 16 s ≡ u → cond (t && u) (word.Value (value 16 0 s)) word.Bad ≡ word.Value n
+        → spelled 16 8 n ≡ s
     by-test true true f g k =
         let l : length s + 0 ≡ 8 = omega (arith, eqb-true (length s) 8 f) in
         let v : value 16 0 s ≡ n = cc in

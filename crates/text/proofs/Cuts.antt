@@ -1,24 +1,18 @@
 -- Laws of a line's fields: the turns of the two loops, and that going on from the end of each field gives all of them in order.
-use Prim.Native.Nat.{ℕ, zero, suc, _+_, _-_, _<_, _≤_}
+use Prim.Native.Nat.{ℕ, suc, _+_, _-_, _<_, _≤_}
 use native.Mathlib.Omega.{arith}
 use native.Mathlib.Numerals.{add-one}
-use mathlib.Core.Bool.{Bool, true, false}
-use mathlib.Core.List.{List, [], _∷_, _++_}
-use mathlib.Core.Logic.{_⊎_, inl, inr, ⊎-elim}
+use mathlib.Core.Bool.{Bool, true, false, cond}
+use mathlib.Core.List.{List, [], _∷_}
+use mathlib.Core.Logic.{⊎-elim}
 use mathlib.Core.Path.{_≡_, refl, sym, _∙_, ap, ap₂}
 use lib.Dec.{eqb}
 use lib.ListN.{length, getD, take, drop, length-drop, drop-of-length-le}
 use lib.Seq.{drop-cons, drop-drop}
-use borrow.Author.Tests.{eq-eqb, ne-eqb, eqb-true, eqb-false}
-use Rattle.octets.specs.Place.{either, part}
-use Rattle.text.specs.Fields.{upto, onFirst, ended, cut}
-
-by-test : (x c : ℕ) (t : Bool) → eqb x c ≡ t → (x ≡ c) ⊎ (x ≡ c → ⊥)
-by-test x c true e = inl (eqb-true x c e)
-by-test x c false e = inr (eqb-false x c e)
-
-same-or-not : (x c : ℕ) → (x ≡ c) ⊎ (x ≡ c → ⊥)
-same-or-not x c = by-test x c (eqb x c) refl
+use borrow.Author.Tests.{eq-eqb, ne-eqb}
+use Rattle.octets.specs.Place.{part}
+use Rattle.octets.proofs.Order.{eq-or-not}
+use Rattle.text.specs.Fields.{upto, onFirst, cut}
 
 -- at a separator the field ends
 pub upto-here : (c : ℕ) (l : List ℕ) (i : ℕ) → i < length l → getD l i 0 ≡ c → length (upto c (drop i l)) ≡ 0
@@ -38,15 +32,12 @@ upto-past c l i h = ap (λ (q : List ℕ). length (upto c q)) (drop-of-length-le
 -- there is at least one field
 pub cut-some : (c : ℕ) (l : List ℕ) → 0 < length (cut c l)
 cut-some c [] = omega arith
-cut-some c (x ∷ l) = by-end (eqb x c) x (cut c l)
+cut-some c (x ∷ l) = by-end (eqb x c) (cut c l)
   where
-    by-first : (x : ℕ) (fs : List (List ℕ)) → 0 < length (onFirst x fs)
-    by-first x [] = omega arith
-    by-first x (f ∷ fs) = omega arith
-
-    by-end : (t : Bool) (x : ℕ) (fs : List (List ℕ)) → 0 < length (ended t x fs)
-    by-end true x fs = omega arith
-    by-end false x fs = by-first x fs
+    by-end : (t : Bool) (fs : List (List ℕ)) → 0 < length (cond t ([] ∷ fs) (onFirst x fs))
+    by-end true fs = omega arith
+    by-end false [] = omega arith
+    by-end false (f ∷ fs) = omega arith
 
 onFirst-length : (x : ℕ) (fs : List (List ℕ)) → 0 < length fs → length (onFirst x fs) ≡ length fs
 onFirst-length x [] h = absurd (omega arith)
@@ -61,7 +52,7 @@ pub cut-more : (c : ℕ) (l : List ℕ) (i : ℕ) → i < length l → (getD l i
     → length (cut c (drop i l)) ≡ length (cut c (drop (i + 1) l))
 cut-more c l i h n =
     ap (λ (q : List ℕ). length (cut c q)) (drop-cons l i 0 h)
-    ∙ ap (λ (t : Bool). length (ended t (getD l i 0) (cut c (drop (suc i) l)))) (ne-eqb (getD l i 0) c n)
+    ∙ ap (λ (t : Bool). length (cond t ([] ∷ cut c (drop (suc i) l)) (onFirst (getD l i 0) (cut c (drop (suc i) l))))) (ne-eqb (getD l i 0) c n)
     ∙ onFirst-length (getD l i 0) (cut c (drop (suc i) l)) (cut-some c (drop (suc i) l))
     ∙ ap (λ (k : ℕ). length (cut c (drop k l))) (sym (add-one i))
 
@@ -85,7 +76,7 @@ upto-take c (x ∷ l) =
     (λ (n : x ≡ c → ⊥).
     let s = goes c x l n .0 in
     s ∙ ap (λ (q : List ℕ). x ∷ q) (upto-take c l) ∙ ap (λ (q : List ℕ). take (length q) (x ∷ l)) (sym s))
-    (same-or-not x c)
+    (eq-or-not x c)
 
 -- a line in which a separator stands: the first field, and the fields after that separator
 cut-first : (c : ℕ) (l : List ℕ) → length (upto c l) < length l → cut c l ≡ upto c l ∷ cut c (drop (suc (length (upto c l))) l)
@@ -101,7 +92,7 @@ cut-first c (x ∷ l) h =
     s .1
     ∙ ap (onFirst x) (cut-first c l k)
     ∙ ap (λ (q : List ℕ). q ∷ cut c (drop (suc (length q)) (x ∷ l))) (sym (s .0)))
-    (same-or-not x c)
+    (eq-or-not x c)
 
 -- a line in which none does is one field
 cut-only : (c : ℕ) (l : List ℕ) → length l ≤ length (upto c l) → cut c l ≡ upto c l ∷ []
@@ -113,7 +104,7 @@ cut-only c (x ∷ l) h =
     let s = goes c x l n in
     let k : length l ≤ length (upto c l) = omega (arith, ap length (s .0)) in
     s .1 ∙ ap (onFirst x) (cut-only c l k) ∙ ap (λ (q : List ℕ). q ∷ []) (sym (s .0)))
-    (same-or-not x c)
+    (eq-or-not x c)
 
 -- The fields from a place on: the one that starts there and ends where `field_end` says, and then those from behind its
 -- separator on, or no other where the line ends there. So a reader that goes on from each end meets every field, in order.

@@ -1,8 +1,8 @@
 -- Laws of single digits: a digit's character and a character's digit, each way undone by the other.
-use Prim.Native.Nat.{ℕ, _+_, _-_, _*_, _/_, _%_, _<_, _≤_}
+use Prim.Native.Nat.{ℕ, _+_, _-_, _<_, _≤_}
 use native.Mathlib.Omega.{arith}
 use mathlib.Core.Logic.{⊎-elim}
-use mathlib.Core.Path.{_≡_, refl, sym, _∙_, ap}
+use mathlib.Core.Path.{_≡_, _∙_, ap}
 use borrow.Author.Tests.{lt-ltb, le-ltb, le-leb, lt-leb}
 use Rattle.octets.proofs.Order.{lt-or-le}
 use Rattle.text.specs.Digits.{digit, worth}
@@ -66,15 +66,6 @@ by-place c P a b d e f =
     (λ (k : c ≤ 57). rw (worth-low c h k) (b h k))
     (lt-or-le 57 c))
     (lt-or-le c 48)
-
-pub worth-most : (c : ℕ) → worth c ≤ 16
-worth-most c =
-    by-place c (λ (w : ℕ). w ≤ 16)
-    (λ h. omega arith)
-    (λ h k. omega arith)
-    (λ h k. omega arith)
-    (λ h k. omega arith)
-    (λ h. omega arith)
 
 -- a digit's character is that digit
 pub worth-digit : (d : ℕ) → d < 16 → worth (digit d) ≡ d

@@ -1,12 +1,12 @@
 -- Laws of a line that is written piece by piece into a buffer with room for it.
 use Prim.Native.Nat.{ℕ, _+_, _≤_}
 use native.Mathlib.Omega.{arith}
-use mathlib.Core.Bool.{Bool, true, false}
+use mathlib.Core.Bool.{Bool, true, false, cond}
 use mathlib.Core.List.{List, [], _++_}
 use mathlib.Core.Path.{_≡_, refl, sym, _∙_, ap}
 use lib.ListN.{length, length-append}
 use borrow.Author.Tests.{le-leb}
-use Rattle.octets.specs.Place.{begun, pasted, either}
+use Rattle.octets.specs.Place.{begun, pasted}
 use Rattle.octets.proofs.Place.{begun-none, begun-put, length-begun}
 use Rattle.text.specs.Line.{Begins}
 use Rattle.text.specs.Promise.{takes, moved, AddPromise}
@@ -39,7 +39,7 @@ wrote-more n m x d s c r e f w p h k =
     record {
       small = omega (arith, w .small, length-append x s);
       cursor = q .cursor ∙ ap (λ (t : Bool). moved t (at (length x)) (length s)) g ∙ ap at o;
-      buffer = q .buffer ∙ ap (λ (t : Bool). either t (pasted (begun x d) (length x) s) (begun x d)) g ∙ begun-put x d s (length x) refl;
+      buffer = q .buffer ∙ ap (λ (t : Bool). cond t (pasted (begun x d) (length x) s) (begun x d)) g ∙ begun-put x d s (length x) refl;
     }
 
 -- the whole line

@@ -17,29 +17,30 @@ use Rattle.text.proofs.read.unhex.Reads as unhex-reads
 use Rattle.text.proofs.split.field_end.Reads as field-end-reads
 use Rattle.text.proofs.split.fields.Reads as fields-reads
 
-promise-only : (d : List ℕ) (c : Cursor) (m : List ℕ) (a b : Cursor) (x y : List ℕ)
+-- the same of anything that is added at a cursor
+pub add-promise-only : (d : List ℕ) (c : Cursor) (m : List ℕ) (a b : Cursor) (x y : List ℕ)
     → AddPromise d c m a x → AddPromise d c m b y → (a ≡ b) × (x ≡ y)
-promise-only d c m a b x y p q = (p .cursor ∙ sym (q .cursor), p .buffer ∙ sym (q .buffer))
+add-promise-only d c m a b x y p q = (p .cursor ∙ sym (q .cursor), p .buffer ∙ sym (q .buffer))
 
 pub add-only : (κs : _) (args : _) (a b : _) (s t : _)
     → add-reads.Post κs args a s → add-reads.Post κs args b t → (a ≡ b) × (now (s .0) ≡ now (t .0))
-add-only κs args a b s t p q = promise-only _ _ _ a b _ _ p q
+add-only κs args a b s t p q = add-promise-only _ _ _ a b _ _ p q
 
 pub decimal-only : (κs : _) (args : _) (a b : _) (s t : _)
     → decimal-reads.Post κs args a s → decimal-reads.Post κs args b t → (a ≡ b) × (now (s .0) ≡ now (t .0))
-decimal-only κs args a b s t p q = promise-only _ _ _ a b _ _ p q
+decimal-only κs args a b s t p q = add-promise-only _ _ _ a b _ _ p q
 
 pub hex-only : (κs : _) (args : _) (a b : _) (s t : _)
     → hex-reads.Post κs args a s → hex-reads.Post κs args b t → (a ≡ b) × (now (s .0) ≡ now (t .0))
-hex-only κs args a b s t p q = promise-only _ _ _ a b _ _ p q
+hex-only κs args a b s t p q = add-promise-only _ _ _ a b _ _ p q
 
 pub hex8-only : (κs : _) (args : _) (a b : _) (s t : _)
     → hex8-reads.Post κs args a s → hex8-reads.Post κs args b t → (a ≡ b) × (now (s .0) ≡ now (t .0))
-hex8-only κs args a b s t p q = promise-only _ _ _ a b _ _ p q
+hex8-only κs args a b s t p q = add-promise-only _ _ _ a b _ _ p q
 
 pub packet-line-only : (κs : _) (args : _) (a b : _) (s t : _)
     → packet-line-reads.Post κs args a s → packet-line-reads.Post κs args b t → (a ≡ b) × (now (s .0) ≡ now (t .0))
-packet-line-only κs args a b s t p q = promise-only _ _ _ a b _ _ p q
+packet-line-only κs args a b s t p q = add-promise-only _ _ _ a b _ _ p q
 
 pub unhex-only : (κs : _) (args : _) (a b : _) (s t : _)
     → unhex-reads.Post κs args a s → unhex-reads.Post κs args b t → (a ≡ b) × (now (s .0) ≡ now (t .0))

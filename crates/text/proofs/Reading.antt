@@ -3,25 +3,22 @@ use Prim.Native.Nat.{ℕ, zero, suc, _+_, _-_, _*_, _/_, _%_, _^_, _<_, _≤_}
 use native.Mathlib.Omega.{arith}
 use native.Mathlib.Nat.{le-mul-of-pos-right, le-div-iff-mul-le, div-lt-iff-lt-mul, mul-le-mul-right, mul-assoc, pow-succ'}
 use native.Mathlib.Numerals.{add-one}
-use mathlib.Core.Bool.{Bool, true, false, _&&_, cond, and-false, and-true}
+use mathlib.Core.Bool.{Bool, true, false, _&&_, cond, and-false}
 use mathlib.Core.List.{List, [], _∷_, _++_, append-assoc}
-use mathlib.Core.Logic.{⊎-elim}
 use mathlib.Core.Path.{_≡_, refl, sym, _∙_, ap, ap₂}
 use lib.Dec.{leb, ltb, eqb}
 use lib.ListN.{length, getD, take, drop, set, drop-of-length-le}
 use lib.Seq.{drop-cons, take-suc, length-take-le}
 use borrow.Author.Tests.{lt-ltb, le-ltb, le-leb, lt-leb, eq-eqb, ne-eqb, leb-true, ltb-true}
-use Rattle.octets.specs.Place.{pasted, placed, fits}
+use Rattle.octets.specs.Place.{pasted}
 use Rattle.octets.proofs.Place.{placed-fits, placed-not}
 use Rattle.text.specs.Digits.{worth, digits, value, pairs}
 use Rattle.text.specs.Promise.{numeral, numberIn, wordIn, hexed, UnhexPromise}
 use Rattle.text.specs.declared.read.Number.{Number}
 use Rattle.text.specs.declared.read.Number.the-variants as number
-use Rattle.text.specs.declared.read.Word.{Word}
 use Rattle.text.specs.declared.read.Word.the-variants as word
-use Rattle.text.specs.declared.read.Unhexed.{Unhexed}
 use Rattle.text.specs.declared.read.Unhexed.the-variants as unhexed
-use Rattle.text.proofs.Writing.{pasted-more}
+use Rattle.octets.proofs.Place.{pasted-more}
 
 -- more digits make no number less
 value-least : (b v : ℕ) (s : List ℕ) → 0 < b → v ≤ value b v s
@@ -210,7 +207,9 @@ word-number s e = by-test (digits 16 s) refl
     big : digits 16 s ≡ true → value 16 0 s ≤ 0xffff_ffff
     big f = let p : 16 ^ length s ≡ 16 ^ 8 = ap (λ (k : ℕ). 16 ^ k) e in omega (arith, value-below 0 s f)
 
-    by-test : (t : Bool) → digits 16 s ≡ t → cond (ltb 0 (length s) && t && leb (value 16 0 s) 0xffff_ffff) (number.Value (value 16 0 s)) number.Bad ≡ cond t (number.Value (value 16 0 s)) number.Bad
+    by-test : (t : Bool) → digits 16 s ≡ t
+        → cond (ltb 0 (length s) && t && leb (value 16 0 s) 0xffff_ffff) (number.Value (value 16 0 s)) number.Bad
+        ≡ cond t (number.Value (value 16 0 s)) number.Bad
     by-test true f =
         let h : 0 < length s = omega arith in
         rw (lt-ltb 0 (length s) h, le-leb (value 16 0 s) 0xffff_ffff (big f))
@@ -222,16 +221,22 @@ word-not s n = rw (ne-eqb (length s) 8 n)
 
 pub word-value : (s : List ℕ) (v : ℕ) → length s ≡ 8 → number.Value v ≡ numberIn 16 0xffff_ffff s → word.Value v ≡ wordIn s
 unfolding wordIn
-word-value s v e f = by-test (digits 16 s) (f ∙ word-number s e) ∙ ap (λ (t : Bool). cond (t && digits 16 s) (word.Value (value 16 0 s)) word.Bad) (sym (eq-eqb (length s) 8 e))
+word-value s v e f =
+    by-test (digits 16 s) (f ∙ word-number s e)
+    ∙ ap (λ (t : Bool). cond (t && digits 16 s) (word.Value (value 16 0 s)) word.Bad) (sym (eq-eqb (length s) 8 e))
   where
-    by-test : (t : Bool) → number.Value v ≡ cond t (number.Value (value 16 0 s)) number.Bad → word.Value v ≡ cond t (word.Value (value 16 0 s)) word.Bad
+    by-test : (t : Bool) → number.Value v ≡ cond t (number.Value (value 16 0 s)) number.Bad
+        → word.Value v ≡ cond t (word.Value (value 16 0 s)) word.Bad
     by-test true g = let h : v ≡ value 16 0 s = cc in ap word.Value h
     by-test false g = let z : _≡_ {A = ℕ} 0 1 = cc in absurd (omega arith)
 
 pub word-bad : (s : List ℕ) → length s ≡ 8 → number.Bad ≡ numberIn 16 0xffff_ffff s → word.Bad ≡ wordIn s
 unfolding wordIn
-word-bad s e f = by-test (digits 16 s) (f ∙ word-number s e) ∙ ap (λ (t : Bool). cond (t && digits 16 s) (word.Value (value 16 0 s)) word.Bad) (sym (eq-eqb (length s) 8 e))
+word-bad s e f =
+    by-test (digits 16 s) (f ∙ word-number s e)
+    ∙ ap (λ (t : Bool). cond (t && digits 16 s) (word.Value (value 16 0 s)) word.Bad) (sym (eq-eqb (length s) 8 e))
   where
-    by-test : (t : Bool) → number.Bad ≡ cond t (number.Value (value 16 0 s)) number.Bad → word.Bad ≡ cond t (word.Value (value 16 0 s)) word.Bad
+    by-test : (t : Bool) → number.Bad ≡ cond t (number.Value (value 16 0 s)) number.Bad
+        → word.Bad ≡ cond t (word.Value (value 16 0 s)) word.Bad
     by-test true g = let z : _≡_ {A = ℕ} 0 1 = cc in absurd (omega arith)
     by-test false g = refl

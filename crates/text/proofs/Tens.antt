@@ -1,17 +1,13 @@
 -- Laws of a number in decimal: its digits by division, how many there are, what they say, and that no zero stands in front.
-use Prim.Native.Nat.{ℕ, zero, suc, _+_, _-_, _*_, _/_, _%_, _^_, _<_, _≤_}
+use Prim.Native.Nat.{ℕ, zero, suc, _/_, _%_, _^_, _<_, _≤_}
 use native.Mathlib.Omega.{arith}
-use mathlib.Core.Bool.{Bool, true, false, _&&_, and-true}
-use mathlib.Core.List.{List, [], _∷_, _++_, append-assoc}
+use mathlib.Core.List.{List, [], _∷_, _++_}
 use mathlib.Core.Logic.{⊎-elim}
-use mathlib.Core.Path.{_≡_, refl, sym, _∙_, ap, ap₂}
-use lib.Dec.{ltb}
-use lib.ListN.{length, getD, length-append}
+use mathlib.Core.Path.{_≡_, refl, sym, _∙_, ap}
+use lib.ListN.{length, length-append}
 use borrow.Author.Tests.{lt-ltb, le-ltb}
-use Rattle.octets.specs.Place.{either}
 use Rattle.octets.proofs.Order.{lt-or-le}
-use Rattle.text.specs.Digits.{digit, worth, shortest, decimal, digits, value}
-use Rattle.text.proofs.Digits.{worth-digit}
+use Rattle.text.specs.Digits.{digit, shortest, decimal}
 
 shortest-small : (f n : ℕ) → n < 10 → shortest f n ≡ digit n ∷ []
 shortest-small zero n h = refl

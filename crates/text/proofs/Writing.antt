@@ -1,18 +1,19 @@
 -- Laws of writing at a cursor: when a piece goes in, and what the buffer holds after the turns of each loop.
-use Prim.Native.Nat.{ℕ, zero, suc, _+_, _-_, _*_, _/_, _%_, _<_, _≤_}
+use Prim.Native.Nat.{ℕ, suc, _+_, _-_, _*_, _/_, _%_, _<_, _≤_}
 use native.Mathlib.Omega.{arith}
 use native.Mathlib.Numerals.{add-one}
 use mathlib.Core.Bool.{Bool, true, false, _&&_, not, and-false}
-use mathlib.Core.List.{List, [], _∷_, _++_, append-assoc}
+use mathlib.Core.List.{List, [], _∷_, _++_}
 use mathlib.Core.Logic.{⊎-elim}
 use mathlib.Core.Path.{_≡_, refl, sym, _∙_, ap, ap₂}
 use lib.Dec.{leb}
-use lib.ListN.{length, getD, take, drop, set, length-append, length-drop, take-append-drop}
-use lib.Seq.{length-take-le, take-all, take-suc, drop-cons, drop-at, set-at, set-split, append-snoc}
+use lib.ListN.{length, getD, take, drop, set, length-append}
+use lib.Seq.{length-take-le, take-suc, append-snoc}
 use borrow.Author.Tests.{le-leb, lt-leb, leb-true}
-use Rattle.octets.specs.Place.{pasted, begun, either}
+use Rattle.octets.specs.Place.{pasted}
 use Rattle.octets.proofs.Order.{lt-or-le}
-use Rattle.text.specs.Digits.{digit, decimal, hex, spelled, hex8}
+use Rattle.octets.proofs.Place.{pasted-more, drop-set}
+use Rattle.text.specs.Digits.{digit, decimal, hex, hex8}
 use Rattle.text.specs.Promise.{takes, AddPromise}
 use Rattle.text.specs.declared.write.Cursor.{Cursor}
 use Rattle.text.proofs.Tens.{decimal-small, decimal-more, decimal-some}
@@ -61,32 +62,6 @@ add-no d c s e = record { cursor = rw e; buffer = rw e }
 pub add-of : (d : List ℕ) (c : Cursor) (s t : List ℕ) (r : Cursor) (x : List ℕ) → s ≡ t → AddPromise d c s r x → AddPromise d c t r x
 add-of d c s t r x e p = rw e at p
 
--- nothing put is nothing changed
-pub pasted-none : (d : List ℕ) (a : ℕ) → pasted d a [] ≡ d
-unfolding pasted
-pasted-none d a = let e : a + 0 ≡ a = omega arith in ap (λ (k : ℕ). take a d ++ drop k d) e ∙ take-append-drop a d
-
--- a part that goes to the end
-pub to-end : (n a : ℕ) (l x : List ℕ) → length l ≤ n → drop a l ≡ x → take (n - a) (drop a l) ≡ x
-to-end n a l x h e = take-all (n - a) (drop a l) (omega (arith, length-drop a l)) ∙ e
-
--- one byte more
-pub pasted-more : (d x : List ℕ) (a n v : ℕ) → length x ≡ n → a + n < length d
-    → set (pasted d a x) (a + n) v ≡ pasted d a (x ++ (v ∷ []))
-unfolding pasted
-pasted-more d x a n v e h =
-    let y : ℕ = getD d (a + n) 0 in
-    let t : List ℕ = drop (suc (a + n)) d in
-    let f : a + length x ≡ a + n = omega arith in
-    let l : length (take a d ++ x) ≡ a + n = omega (arith, length-append (take a d) x, length-take-le a d (omega arith)) in
-    let g : suc (a + n) ≡ a + length (x ++ (v ∷ [])) = omega (arith, length-append x (v ∷ [])) in
-    ap (λ (q : List ℕ). set (take a d ++ (x ++ q)) (a + n) v) (ap (λ (k : ℕ). drop k d) f ∙ drop-cons d (a + n) 0 h)
-    ∙ ap (λ (q : List ℕ). set q (a + n) v) (sym (append-assoc (take a d) x (y ∷ t)))
-    ∙ set-at (take a d ++ x) y t v (a + n) l
-    ∙ append-assoc (take a d) x (v ∷ t)
-    ∙ ap (λ (q : List ℕ). take a d ++ q) (sym (append-snoc x v t))
-    ∙ ap (λ (k : ℕ). take a d ++ ((x ++ (v ∷ [])) ++ drop k d)) g
-
 pub length-hex : (l : List ℕ) → length (hex l) ≡ 2 * length l
 length-hex [] = refl
 length-hex (b ∷ l) = omega (arith, length-hex l)
@@ -127,10 +102,6 @@ hex-turn x d s a i p q e h k f g =
     ∙ pasted-more d (y ++ (digit (b / 16) ∷ [])) a (2 * i + 1) (digit (b % 16)) n (omega arith)
     ∙ ap (pasted d a) (sym (hex-snoc (take i s) b) ∙ ap hex (sym (take-suc s i 0 h) ∙ ap (λ (j : ℕ). take j s) (sym (add-one i))))
 
--- what stands from a place on after a store there
-drop-set-here : (l : List ℕ) (i v : ℕ) → i < length l → drop i (set l i v) ≡ v ∷ drop (suc i) l
-drop-set-here l i v h = ap (drop i) (set-split l i v h) ∙ drop-at (take i l) _ i (length-take-le i l (omega arith))
-
 -- the last digit of what is left, put in front of the digits that are there
 pub digit-turn : (l out : List ℕ) (n at v : ℕ) → 0 < at → at ≤ length out → l ≡ decimal n ++ drop at out → 10 ≤ n → v ≡ digit (n % 10)
     → l ≡ decimal (n / 10) ++ drop (at - 1) (set out (at - 1) v)
@@ -140,21 +111,22 @@ digit-turn l out n at v h k e g f =
     ∙ ap (λ (q : List ℕ). q ++ drop at out) (decimal-more n g)
     ∙ append-snoc (decimal (n / 10)) (digit (n % 10)) (drop at out)
     ∙ ap₂ (λ (u : ℕ) (j : ℕ). decimal (n / 10) ++ u ∷ drop j out) (sym f) (sym i)
-    ∙ ap (λ (q : List ℕ). decimal (n / 10) ++ q) (sym (drop-set-here out (at - 1) v (omega arith)))
+    ∙ ap (λ (q : List ℕ). decimal (n / 10) ++ q) (sym (drop-set out (at - 1) v (omega arith)))
 
 -- the first digit, put in front of the others
 pub digit-last : (l out : List ℕ) (n at v : ℕ) → 0 < at → at ≤ length out → l ≡ decimal n ++ drop at out → n < 10 → v ≡ digit n
     → drop (at - 1) (set out (at - 1) v) ≡ l
 digit-last l out n at v h k e g f =
     let i : suc (at - 1) ≡ at = omega arith in
-    drop-set-here out (at - 1) v (omega arith)
+    drop-set out (at - 1) v (omega arith)
     ∙ ap₂ (λ (u : ℕ) (j : ℕ). u ∷ drop j out) f i
     ∙ sym (e ∙ ap (λ (q : List ℕ). q ++ drop at out) (decimal-small n g))
 
 -- how the room for what is left falls
 pub digits-left : (n at : ℕ) → 10 ≤ n → length (decimal n) ≤ at → (length (decimal (n / 10)) ≤ at - 1) × (1 < at)
 digits-left n at h k =
-    let e : length (decimal n) ≡ length (decimal (n / 10)) + 1 = ap length (decimal-more n h) ∙ length-append (decimal (n / 10)) (digit (n % 10) ∷ []) in
+    let e : length (decimal n) ≡ length (decimal (n / 10)) + 1 =
+    ap length (decimal-more n h) ∙ length-append (decimal (n / 10)) (digit (n % 10) ∷ []) in
     (omega (arith, decimal-some (n / 10)), omega (arith, decimal-some (n / 10)))
 
 -- eight digits are those of the number

@@ -1,9 +1,8 @@
 -- Numbers and bytes as text (docs/RULES.md, 9.1 to 9.3): the digits are `0` to `9` and, for ten to fifteen, `a` to `f`.
 use Prim.Native.Nat.{ℕ, zero, suc, _+_, _-_, _*_, _/_, _%_}
-use mathlib.Core.Bool.{Bool, true, false, _&&_, cond}
+use mathlib.Core.Bool.{Bool, true, _&&_, cond}
 use mathlib.Core.List.{List, [], _∷_, _++_}
 use lib.Dec.{leb, ltb}
-use Rattle.octets.specs.Place.{either}
 
 -- the character of a digit below 16
 unfoldable pub digit : ℕ → ℕ
@@ -21,7 +20,7 @@ spelled b (suc w) n = spelled b w (n / b) ++ (digit (n % b) ∷ [])
 -- n in decimal, where f divisions by ten are enough
 abbrev pub shortest : ℕ → ℕ → List ℕ
 shortest zero n = digit n ∷ []
-shortest (suc f) n = either (ltb n 10) (digit n ∷ []) (shortest f (n / 10) ++ (digit (n % 10) ∷ []))
+shortest (suc f) n = cond (ltb n 10) (digit n ∷ []) (shortest f (n / 10) ++ (digit (n % 10) ∷ []))
 
 -- n in decimal: below ten its digit, else what n / 10 has and then the digit of n % 10. So no zero stands in front, but
 -- that 0 is `0`. (n divisions are more than enough.)

@@ -6,8 +6,8 @@ use lib.ListN.{length}
 use Rattle.octets.specs.Place.{begun}
 use Rattle.refusal.specs.Table.{numberOf}
 use Rattle.text.specs.Digits.{decimal, hex8}
-use Rattle.text.specs.declared.packet.Outcome.{Outcome}
-use Rattle.text.specs.declared.packet.Outcome.the-variants.{Packet, Refused}
+use Rattle.text.specs.declared.packet.Telling.{Telling}
+use Rattle.text.specs.declared.packet.Telling.the-variants.{Packet, Refused}
 
 -- `type `
 abbrev pub typeWord : List ℕ
@@ -42,7 +42,8 @@ packetLine kind id seq len =
 abbrev pub refusedLine : ℕ → List ℕ
 refusedLine n = refusedWord ++ decimal n ++ newline
 
-abbrev pub lineOf : Outcome → List ℕ
+-- the line of either
+abbrev pub lineOf : Telling → List ℕ
 lineOf (Packet kind id seq len) = packetLine kind id seq len
 lineOf (Refused r) = refusedLine (numberOf r)
 

@@ -1,11 +1,11 @@
 -- What the calls that write and read text promise (docs/RULES.md, 9.1 to 9.3 and 9.5).
 use Prim.Native.Nat.{ℕ, _+_, _%_}
 use mathlib.Core.Bool.{Bool, true, false, _&&_, not, cond}
-use mathlib.Core.List.{List, [], _∷_}
+use mathlib.Core.List.{List}
 use mathlib.Core.Path.{_≡_}
 use lib.Dec.{leb, eqb, ltb}
 use lib.ListN.{length}
-use Rattle.octets.specs.Place.{fits, either, pasted, placed}
+use Rattle.octets.specs.Place.{fits, pasted, placed}
 use Rattle.text.specs.Digits.{digits, value, pairs}
 use Rattle.text.specs.declared.write.Cursor.{Cursor}
 use Rattle.text.specs.declared.read.Number.{Number}
@@ -21,13 +21,12 @@ takes c m n = not (c .full) && leb (c .at + n) m
 
 -- the cursor after n bytes went in, or did not
 abbrev pub moved : Bool → Cursor → ℕ → Cursor
-moved true c n = record { at = c .at + n; full = false }
-moved false c n = record { at = c .at; full = true }
+moved t c n = cond t (record { at = c .at + n; full = false }) (record { at = c .at; full = true })
 
 -- s was to be added to d at the cursor c: all of it goes in, or nothing changes and from then on nothing more does
 pub record AddPromise (d : List ℕ) (c : Cursor) (s : List ℕ) (r : Cursor) (exit : List ℕ) : Type 0 where
   pub cursor : r ≡ moved (takes c (length d) (length s)) c (length s)
-  pub buffer : exit ≡ either (takes c (length d) (length s)) (pasted d (c .at) s) d
+  pub buffer : exit ≡ cond (takes c (length d) (length s)) (pasted d (c .at) s) d
 
 -- whether s is a number in the base b: at least one character, and each a digit
 unfoldable pub numeral : ℕ → List ℕ → Bool

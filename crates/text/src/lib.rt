@@ -4,7 +4,7 @@ mod read;
 mod split;
 mod write;
 
-pub use packet::Outcome;
+pub use packet::Telling;
 pub use packet::packet_line;
 pub use read::Number;
 pub use read::Unhexed;

@@ -9,7 +9,8 @@ use crate::write::decimal;
 use crate::write::hex8;
 use refusal::Refusal;
 
-pub enum Outcome {
+// What is told of a packet: its numbers, or a refusal.
+pub enum Telling {
     Packet {
         kind: u8,
         id: u32,
@@ -20,9 +21,9 @@ pub enum Outcome {
 }
 
 // The line of a packet at the start of `out`, and its length.
-fn read_line(out: &mut [u8], kind: u8, id: u32, seq: u32, len: usize) -> usize
+fn write_packet(out: &mut [u8], kind: u8, id: u32, seq: u32, len: usize) -> usize
     requires { ⌜ 64 ≤ length (now out) ⌝ }
-    ensures { λ n. ⌜ Begins (now (out .entry)) (lineOf (Outcome.Packet kind id seq len)) n (now (out .exit)) ⌝ }
+    ensures { λ n. ⌜ Begins (now (out .entry)) (lineOf (Telling.Packet kind id seq len)) n (now (out .exit)) ⌝ }
 {
     let c = Cursor { at: 0, full: false };
     let c = add(out, c, b"type ");
@@ -38,9 +39,9 @@ fn read_line(out: &mut [u8], kind: u8, id: u32, seq: u32, len: usize) -> usize
 }
 
 // The line of a refusal at the start of `out`, and its length.
-fn refused_line(out: &mut [u8], r: Refusal) -> usize
+fn write_refusal(out: &mut [u8], r: Refusal) -> usize
     requires { ⌜ 64 ≤ length (now out) ⌝ }
-    ensures { λ n. ⌜ Begins (now (out .entry)) (lineOf (Outcome.Refused r)) n (now (out .exit)) ⌝ }
+    ensures { λ n. ⌜ Begins (now (out .entry)) (lineOf (Telling.Refused r)) n (now (out .exit)) ⌝ }
 {
     let c = Cursor { at: 0, full: false };
     let c = add(out, c, b"refused ");
@@ -49,21 +50,22 @@ fn refused_line(out: &mut [u8], r: Refusal) -> usize
     c.at
 }
 
-fn any_line(out: &mut [u8], o: Outcome) -> usize
+// The line of either at the start of `out`, and its length: at most 63 characters.
+fn write_line(out: &mut [u8], t: Telling) -> usize
     requires { ⌜ 64 ≤ length (now out) ⌝ }
-    ensures { λ n. ⌜ Begins (now (out .entry)) (lineOf o) n (now (out .exit)) ⌝ }
+    ensures { λ n. ⌜ Begins (now (out .entry)) (lineOf t) n (now (out .exit)) ⌝ }
 {
-    match o {
-        Outcome::Packet { kind, id, seq, len } => read_line(out, kind, id, seq, len),
-        Outcome::Refused(r) => refused_line(out, r),
+    match t {
+        Telling::Packet { kind, id, seq, len } => write_packet(out, kind, id, seq, len),
+        Telling::Refused(r) => write_refusal(out, r),
     }
 }
 
-// Adds the line that tells the outcome, with the newline that ends it. It is made beside first, since all of it goes in or nothing.
-pub fn packet_line(out: &mut [u8], c: Cursor, o: Outcome) -> Cursor
-    ensures { λ r. ⌜ AddPromise (now (out .entry)) c (lineOf o) r (now (out .exit)) ⌝ }
+// Adds the line of what is told, with the newline that ends it. It is made beside first, since all of it goes in or nothing.
+pub fn packet_line(out: &mut [u8], c: Cursor, t: Telling) -> Cursor
+    ensures { λ r. ⌜ AddPromise (now (out .entry)) c (lineOf t) r (now (out .exit)) ⌝ }
 {
     let mut line = [0u8; 64];
-    let n = any_line(&mut line, o);
+    let n = write_line(&mut line, t);
     add(out, c, &line[..n])
 }

@@ -25,7 +25,7 @@ pub enum Unhexed {
 }
 
 // The digit that a character is, 16 where it is none.
-fn worth(c: u8) -> u8
+fn read_digit(c: u8) -> u8
     ensures { λ r. ⌜ r ≡ worth c ⌝ }
 {
     if c < 48 {
@@ -44,7 +44,7 @@ fn worth(c: u8) -> u8
 }
 
 // A number in a base from 2 to 16 that is at most `most`.
-fn number_in(s: &[u8], base: u8, most: u64) -> Number
+fn read_number(s: &[u8], base: u8, most: u64) -> Number
     requires { ⌜ (0 < base) × (base ≤ 16) ⌝ }
     ensures { λ r. ⌜ r ≡ numberIn base most (now (s .entry)) ⌝ }
 {
@@ -54,7 +54,7 @@ fn number_in(s: &[u8], base: u8, most: u64) -> Number
     let mut v: u64 = 0;
     let mut i: usize = 0;
     while i < s.len() {
-        let d = worth(s[i]);
+        let d = read_digit(s[i]);
         if base <= d {
             return Number::Bad;
         }
@@ -75,7 +75,7 @@ fn number_in(s: &[u8], base: u8, most: u64) -> Number
 pub fn undecimal(s: &[u8], most: u64) -> Number
     ensures { λ r. ⌜ r ≡ numberIn 10 most (now (s .entry)) ⌝ }
 {
-    number_in(s, 10, most)
+    read_number(s, 10, most)
 }
 
 // Eight hex digits as a number.
@@ -85,19 +85,19 @@ pub fn unhex8(s: &[u8]) -> Word
     if s.len() != 8 {
         return Word::Bad;
     }
-    match number_in(s, 16, 0xffff_ffff) {
+    match read_number(s, 16, 0xffff_ffff) {
         Number::Value(v) => Word::Value(v as u32),
         Number::Bad => Word::Bad,
     }
 }
 
 // Whether each character is a hex digit.
-fn all_hex(s: &[u8]) -> bool
+fn is_hex(s: &[u8]) -> bool
     ensures { λ r. ⌜ r ≡ digits 16 (now (s .entry)) ⌝ }
 {
     let mut i: usize = 0;
     while i < s.len() {
-        if 16 <= worth(s[i]) {
+        if 16 <= read_digit(s[i]) {
             return false;
         }
         i += 1;
@@ -106,15 +106,15 @@ fn all_hex(s: &[u8]) -> bool
 }
 
 // The byte of two hex digits.
-fn byte(h: u8, l: u8) -> u8
+fn join_digits(h: u8, l: u8) -> u8
     requires { ⌜ (worth h < 16) × (worth l < 16) ⌝ }
     ensures { λ r. ⌜ r ≡ 16 * worth h + worth l ⌝ }
 {
-    16 * worth(h) + worth(l)
+    16 * read_digit(h) + read_digit(l)
 }
 
 // Puts the bytes where they are known to fit.
-fn join(out: &mut [u8], at: usize, s: &[u8])
+fn put_bytes(out: &mut [u8], at: usize, s: &[u8])
     requires { ⌜ at + length (pairs (now s)) ≤ length (now out) ⌝ }
     requires { ⌜ length (now s) % 2 ≡ 0 ⌝ }
     requires { ⌜ digits 16 (now s) ≡ true ⌝ }
@@ -122,7 +122,7 @@ fn join(out: &mut [u8], at: usize, s: &[u8])
 {
     let mut i: usize = 0;
     while i < s.len() / 2 {
-        out[at + i] = byte(s[2 * i], s[2 * i + 1]);
+        out[at + i] = join_digits(s[2 * i], s[2 * i + 1]);
         i += 1;
     }
 }
@@ -134,7 +134,7 @@ pub fn unhex(out: &mut [u8], at: usize, s: &[u8]) -> Unhexed
     if s.len() % 2 != 0 {
         return Unhexed::Bad;
     }
-    if !all_hex(s) {
+    if !is_hex(s) {
         return Unhexed::Bad;
     }
     let n = s.len() / 2;
@@ -144,6 +144,6 @@ pub fn unhex(out: &mut [u8], at: usize, s: &[u8]) -> Unhexed
     if out.len() - n < at {
         return Unhexed::NoRoom;
     }
-    join(out, at, s);
+    put_bytes(out, at, s);
     Unhexed::Bytes(n)
 }

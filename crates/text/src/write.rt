@@ -14,7 +14,7 @@ pub struct Cursor {
 }
 
 // Whether n bytes more go into a buffer of m.
-fn takes(c: Cursor, m: usize, n: usize) -> bool
+fn has_room(c: Cursor, m: usize, n: usize) -> bool
     ensures { λ r. ⌜ r ≡ takes c m n ⌝ }
 {
     if c.full {
@@ -31,7 +31,7 @@ pub fn add(out: &mut [u8], c: Cursor, s: &[u8]) -> Cursor
     ensures { λ r. ⌜ AddPromise (now (out .entry)) c (now (s .entry)) r (now (out .exit)) ⌝ }
 {
     let at = c.at;
-    if takes(c, out.len(), s.len()) {
+    if has_room(c, out.len(), s.len()) {
         octets::put(out, at, s);
         return Cursor {
             at: at + s.len(),
@@ -42,7 +42,7 @@ pub fn add(out: &mut [u8], c: Cursor, s: &[u8]) -> Cursor
 }
 
 // The character of a digit below 16.
-fn digit(d: u8) -> u8
+fn spell_digit(d: u8) -> u8
     requires { ⌜ d < 16 ⌝ }
     ensures { λ r. ⌜ r ≡ digit d ⌝ }
 {
@@ -50,7 +50,7 @@ fn digit(d: u8) -> u8
 }
 
 // Puts n in decimal at the end of the twenty bytes, which any u64 fits, and answers where it starts.
-fn shortest(out: &mut [u8], n: u64) -> usize
+fn put_decimal(out: &mut [u8], n: u64) -> usize
     requires { ⌜ length (now out) ≡ 20 ⌝ }
     ensures { λ r. ⌜ (r ≤ length (now (out .exit))) × (drop r (now (out .exit)) ≡ decimal n) ⌝ }
 {
@@ -58,11 +58,11 @@ fn shortest(out: &mut [u8], n: u64) -> usize
     let mut rest = n;
     while 10 <= rest {
         at -= 1;
-        out[at] = digit((rest % 10) as u8);
+        out[at] = spell_digit((rest % 10) as u8);
         rest /= 10;
     }
     at -= 1;
-    out[at] = digit(rest as u8);
+    out[at] = spell_digit(rest as u8);
     at
 }
 
@@ -71,19 +71,19 @@ pub fn decimal(out: &mut [u8], c: Cursor, n: u64) -> Cursor
     ensures { λ r. ⌜ AddPromise (now (out .entry)) c (decimal n) r (now (out .exit)) ⌝ }
 {
     let mut text = [0u8; 20];
-    let from = shortest(&mut text, n);
+    let from = put_decimal(&mut text, n);
     add(out, c, &text[from..])
 }
 
 // Puts bytes in hex where they are known to fit.
-fn spell(out: &mut [u8], at: usize, s: &[u8])
+fn put_hex(out: &mut [u8], at: usize, s: &[u8])
     requires { ⌜ at + 2 * length (now s) ≤ length (now out) ⌝ }
     ensures { λ _. ⌜ now (out .exit) ≡ pasted (now (out .entry)) at (hex (now (s .entry))) ⌝ }
 {
     let mut i: usize = 0;
     while i < s.len() {
-        out[at + 2 * i] = digit(s[i] / 16);
-        out[at + 2 * i + 1] = digit(s[i] % 16);
+        out[at + 2 * i] = spell_digit(s[i] / 16);
+        out[at + 2 * i + 1] = spell_digit(s[i] % 16);
         i += 1;
     }
 }
@@ -94,8 +94,8 @@ pub fn hex(out: &mut [u8], c: Cursor, s: &[u8]) -> Cursor
 {
     let at = c.at;
     let n = 2 * s.len();
-    if takes(c, out.len(), n) {
-        spell(out, at, s);
+    if has_room(c, out.len(), n) {
+        put_hex(out, at, s);
         return Cursor {
             at: at + n,
             full: false,
@@ -105,10 +105,10 @@ pub fn hex(out: &mut [u8], c: Cursor, s: &[u8]) -> Cursor
 }
 
 // The last hex digit of a number.
-fn last(n: u32) -> u8
+fn spell_last(n: u32) -> u8
     ensures { λ r. ⌜ r ≡ digit (n % 16) ⌝ }
 {
-    digit((n % 16) as u8)
+    spell_digit((n % 16) as u8)
 }
 
 // Adds a number as eight hex digits.
@@ -117,14 +117,14 @@ pub fn hex8(out: &mut [u8], c: Cursor, n: u32) -> Cursor
 {
     let high = n / 16 / 16 / 16 / 16;
     let text = [
-        last(high / 16 / 16 / 16),
-        last(high / 16 / 16),
-        last(high / 16),
-        last(high),
-        last(n / 16 / 16 / 16),
-        last(n / 16 / 16),
-        last(n / 16),
-        last(n),
+        spell_last(high / 16 / 16 / 16),
+        spell_last(high / 16 / 16),
+        spell_last(high / 16),
+        spell_last(high),
+        spell_last(n / 16 / 16 / 16),
+        spell_last(n / 16 / 16),
+        spell_last(n / 16),
+        spell_last(n),
     ];
     add(out, c, &text)
 }

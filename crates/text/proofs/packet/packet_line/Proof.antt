@@ -10,10 +10,20 @@ use Rattle.text.proofs.packet.packet_line.Statement.{statement}
 use Rattle.text.proofs.packet.packet_line.Tie as tie
 
 slice-aggregate-add : tie.Need-slice-aggregate-add
-slice-aggregate-add c = let p = c .before .before .before .any-line .ensures in sym (length-take-le (c .before .before .before .any-line .result) (c .before .before .before .any-line .last .0) (p .within))
+slice-aggregate-add c =
+    let write-line = c .before .before .before .write-line in
+    let p = write-line .ensures in
+    sym (length-take-le (write-line .result) (write-line .last .0) (p .within))
 
 returns : tie.Need-returns
-returns c = let a = c .before .before .before .before .before .before .before .before .before .args in let p = c .before .before .before .before .before .before .any-line .ensures in add-of (a .out .now) (a .c) _ (lineOf (a .o)) _ _ (ap (take (c .before .before .before .before .before .before .any-line .result)) (p .buffer) ∙ begun-take (lineOf (a .o)) _ (c .before .before .before .before .before .before .any-line .result) (sym (p .count))) (c .before .before .add .ensures)
+returns c =
+    let a = c .before .before .before .before .before .before .before .before .before .args in
+    let add = c .before .before .add in
+    let write-line = c .before .before .before .before .before .before .write-line in
+    let p = write-line .ensures in
+    add-of (a .out .now) (a .c) _ (lineOf (a .t)) _ _
+    (ap (take (write-line .result)) (p .buffer) ∙ begun-take (lineOf (a .t)) _ (write-line .result) (sym (p .count)))
+    (add .ensures)
 
 pub packet-line-spec : {M : Type 1} → statement M
 packet-line-spec =

@@ -1,5 +1,5 @@
 -- `field_end` keeps its promise: where it stands and what is left of the field are the same end at every turn.
-use Prim.Native.Nat.{ℕ, _+_, _-_, _≤_}
+use Prim.Native.Nat.{_+_, _-_, _≤_}
 use mathlib.Core.Path.{_≡_, refl}
 use native.Mathlib.Omega.{arith}
 use lib.ListN.{length, drop}
@@ -21,7 +21,10 @@ shared-slice-read-if1 : tie.Need-shared-slice-read-if1 Inv-loop μ-loop
 shared-slice-read-if1 c = omega arith
 
 returns : tie.Need-returns Inv-loop μ-loop
-returns c = let l = c .before .before .before .loop in let a = c .before .before .before .before .args in omega (arith, upto-here (a .separator) (a .line .now) (l .at) (omega arith) (c .if1 .taken), l .inv .1)
+returns c =
+    let l = c .before .before .before .loop in
+    let a = c .before .before .before .before .args in
+    omega (arith, upto-here (a .separator) (a .line .now) (l .at) (omega arith) (c .if1 .taken), l .inv .1)
 
 add-at : tie.Need-add-at Inv-loop μ-loop
 add-at c = omega arith
@@ -30,10 +33,16 @@ loop-less : tie.Need-loop-less Inv-loop μ-loop
 loop-less c = omega arith
 
 loop-again : tie.Need-loop-again Inv-loop μ-loop
-loop-again c = let l = c .before .before .before .loop in let a = c .before .before .before .before .args in (omega arith, omega (arith, upto-more (a .separator) (a .line .now) (l .at) (omega arith) (c .if1 .left), l .inv .1))
+loop-again c =
+    let l = c .before .before .before .loop in
+    let a = c .before .before .before .before .args in
+    (omega arith, omega (arith, upto-more (a .separator) (a .line .now) (l .at) (omega arith) (c .if1 .left), l .inv .1))
 
 returns-2 : tie.Need-returns-2 Inv-loop μ-loop
-returns-2 c = let l = c .before .loop in let a = c .before .before .args in omega (arith, upto-past (a .separator) (a .line .now) (l .at) (omega arith), l .inv .1)
+returns-2 c =
+    let l = c .before .loop in
+    let a = c .before .before .args in
+    omega (arith, upto-past (a .separator) (a .line .now) (l .at) (omega arith), l .inv .1)
 
 pub field-end-spec : {M : Type 1} → statement M
 field-end-spec =

@@ -1,5 +1,5 @@
 -- `fields` keeps its promise: the separators that were passed and the fields of the rest are all the fields.
-use Prim.Native.Nat.{ℕ, _+_, _-_, _≤_}
+use Prim.Native.Nat.{_+_, _-_, _≤_}
 use mathlib.Core.Logic.{⊎-elim}
 use mathlib.Core.Path.{_≡_}
 use native.Mathlib.Omega.{arith}
@@ -31,13 +31,28 @@ loop-less : tie.Need-loop-less Inv-loop μ-loop
 loop-less c = omega arith
 
 loop-again : tie.Need-loop-again Inv-loop μ-loop
-loop-again c = let l = c .before .before .before .loop in let a = c .before .before .before .before .args in ⊎-elim (λ w. (omega arith, omega arith, omega (arith, cut-here (a .separator) (a .line .now) (l .at) (omega arith) (w .0 .taken), l .inv .2))) (λ w. (omega arith, omega arith, omega (arith, cut-more (a .separator) (a .line .now) (l .at) (omega arith) (w .0 .left), l .inv .2))) (c .if1 .came)
+loop-again c =
+    let l = c .before .before .before .loop in
+    let a = c .before .before .before .before .args in
+    ⊎-elim (λ w. (
+      omega arith,
+      omega arith,
+      omega (arith, cut-here (a .separator) (a .line .now) (l .at) (omega arith) (w .0 .taken), l .inv .2),
+    ))
+    (λ w. (
+      omega arith,
+      omega arith,
+      omega (arith, cut-more (a .separator) (a .line .now) (l .at) (omega arith) (w .0 .left), l .inv .2),
+    )) (c .if1 .came)
 
 add-result : tie.Need-add-result Inv-loop μ-loop
 add-result c = omega arith
 
 returns : tie.Need-returns Inv-loop μ-loop
-returns c = let l = c .before .loop in let a = c .before .before .args in omega (arith, cut-past (a .separator) (a .line .now) (l .at) (omega arith), l .inv .2)
+returns c =
+    let l = c .before .loop in
+    let a = c .before .before .args in
+    omega (arith, cut-past (a .separator) (a .line .now) (l .at) (omega arith), l .inv .2)
 
 pub fields-spec : {M : Type 1} → statement M
 fields-spec =

@@ -15,19 +15,19 @@ returns-2 c = block-value _ (c .before .before .if1 .left) (c .if2 .taken)
 returns-3 : tie.Need-returns-3
 returns-3 c =
     block-known _ (c .before .before .before .before .before .before .if1 .left) 0 _
-    (c .before .before .before .before .if2 .left) (c .before .before .if3 .taken) refl (c .authentication-of .ensures)
+    (c .before .before .before .before .if2 .left) (c .before .before .if3 .taken) refl (c .find-authentication .ensures)
 
 returns-4 : tie.Need-returns-4
 returns-4 c =
     block-known _ (c .before .before .before .before .before .before .before .if1 .left) 1 _
     (c .before .before .before .before .before .if2 .left) (c .before .before .if4 .taken) refl
-    (c .integrity-of .ensures)
+    (c .find-integrity .ensures)
 
 returns-5 : tie.Need-returns-5
 returns-5 c =
     block-known _ (c .before .before .before .before .before .before .before .before .if1 .left) 2 _
     (c .before .before .before .before .before .before .if2 .left) (c .before .before .if5 .taken) refl
-    (c .confidentiality-of .ensures)
+    (c .find-confidentiality .ensures)
 
 returns-6 : tie.Need-returns-6
 returns-6 c =

@@ -12,10 +12,10 @@ returns-2 : tie.Need-returns-2
 returns-2 c =
     let a = c .before .before .before .before .before .before .before .before .before .before .before .args in
     request-yes (a .self) (a .out .now) _ _ _ _ _ _ (omega arith)
-    (c .before .before .before .before .before .before .before .level-byte .ensures)
-    (c .before .before .before .before .before .before .begin .ensures)
+    (c .before .before .before .before .before .before .before .encode-level .ensures)
+    (c .before .before .before .before .before .before .make-head .ensures)
     (c .before .before .before .before .before .write .ensures) (c .before .before .before .before .write2 .ensures)
-    (c .before .before .before .write3 .ensures) (c .before .before .put-all .ensures)
+    (c .before .before .before .write3 .ensures) (c .before .before .put-pieces .ensures)
 
 pub write-data-spec : {M : Type 1} → statement M
 write-data-spec =

@@ -8,14 +8,14 @@ use Rattle.messages.proofs.rakp_1.RakpMessage1.write.Tie as tie
 returns : tie.Need-returns
 returns c =
     let a = c .before .before .before .before .before .before .args in
-    write1-no (a .self) (search needs) _ (c .before .name-len .ensures .0) (a .out .now) (omega arith)
+    write1-no (a .self) (search needs) _ (c .before .count-name .ensures .0) (a .out .now) (omega arith)
 
 returns-2 : tie.Need-returns-2
 returns-2 c =
     let a = c .before .before .before .before .before .before .before .before .before .before .before .args in
-    write1-yes (a .self) (search needs) _ (c .before .before .before .before .before .before .name-len .ensures .0)
-    (a .out .now) _ _ _ (omega arith) (c .before .before .before .begin .ensures)
-    (c .before .before .before .before .before .before .name-len .ensures .2) (c .before .before .put-all .ensures)
+    write1-yes (a .self) (search needs) _ (c .before .before .before .before .before .before .count-name .ensures .0)
+    (a .out .now) _ _ _ (omega arith) (c .before .before .before .make-head .ensures)
+    (c .before .before .before .before .before .before .count-name .ensures .2) (c .before .before .put-pieces .ensures)
 
 pub write-spec : {M : Type 1} → statement M
 write-spec =

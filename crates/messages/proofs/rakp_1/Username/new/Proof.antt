@@ -5,11 +5,11 @@ use borrow.Author.Needs.{needs}
 use Rattle.messages.proofs.rakp_1.Username.new.Statement.{statement}
 use Rattle.messages.proofs.rakp_1.Username.new.Tie as tie
 
-first-requires : tie.Need-first-requires
-first-requires c κs = (omega arith, omega arith, first-short (c .before .before .args .name .now) (omega arith))
+take-name-requires : tie.Need-take-name-requires
+take-name-requires c κs = (omega arith, omega arith, first-short (c .before .before .args .name .now) (omega arith))
 
-first-requires-2 : tie.Need-first-requires-2
-first-requires-2 c κs = search needs
+take-name-requires-2 : tie.Need-take-name-requires-2
+take-name-requires-2 c κs = search needs
 
 pub new-spec : {M : Type 1} → statement M
-new-spec = tie.close (tie.spec first-requires (λ c. search needs) first-requires-2 (λ c. search needs))
+new-spec = tie.close (tie.spec take-name-requires (λ c. search needs) take-name-requires-2 (λ c. search needs))

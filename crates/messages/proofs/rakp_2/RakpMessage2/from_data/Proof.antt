@@ -5,21 +5,21 @@ use borrow.Author.Needs.{needs}
 use Rattle.messages.proofs.rakp_2.RakpMessage2.from_data.Statement.{statement}
 use Rattle.messages.proofs.rakp_2.RakpMessage2.from_data.Tie as tie
 
-fields-requires : tie.Need-fields-requires
-fields-requires c κs =
-    checked-size 2 names2 40 20 0 _ (test-passed _ _ (c .before .before .checked .ensures) (c .enum-told .given .1))
+read-fields-requires : tie.Need-read-fields-requires
+read-fields-requires c κs =
+    checked-size 2 names2 40 20 0 _ (test-passed _ _ (c .before .before .check-head .ensures) (c .enum-told .given .1))
 
 returns : tie.Need-returns
 returns c =
     let a = c .before .before .before .before .before .before .before .args in
-    read2-no (a .message .now) _ (c .before .before .before .before .checked .ensures) _ _
-    (c .before .before .r .given .1) (c .none .ensures)
+    read2-no (a .message .now) _ (c .before .before .before .before .check-head .ensures) _ _
+    (c .before .before .r .given .1) (c .make-blank .ensures)
 
 returns-2 : tie.Need-returns-2
 returns-2 c =
     let a = c .before .before .before .before .before .before .args in
-    read2-yes (a .message .now) _ (c .before .before .before .checked .ensures) _ (c .before .enum-told .given .1)
-    (c .fields .ensures)
+    read2-yes (a .message .now) _ (c .before .before .before .check-head .ensures) _ (c .before .enum-told .given .1)
+    (c .read-fields .ensures)
 
 pub from-data-spec : {M : Type 1} → statement M
 from-data-spec =
@@ -30,6 +30,6 @@ from-data-spec =
     (λ c. search needs)
     (λ c κs. search needs)
     (λ c. search needs)
-    fields-requires
+    read-fields-requires
     returns
     returns-2)

@@ -12,17 +12,21 @@ returns : tie.Need-returns
 unfolding declined3
 returns c =
     let a = c .before .before .before .before .before .before .before .before .args in
+    let put = c .before .before .before .put in
+    let make-head = c .before .before .before .before .before .before .make-head in
     one-no (declined3 (a .self)) (a .out .now) _ _
-    (put-of (a .out .now) 0 (c .before .before .before .before .before .before .begin .result) (declined3 (a .self)) _ _ (c .before .before .before .before .before .before .begin .ensures) (c .before .before .before .put .ensures))
-    (not-true (c .before .before .before .put .result) (c .if1 .taken))
+    (put-of (a .out .now) 0 (make-head .result) (declined3 (a .self)) _ _ (make-head .ensures) (put .ensures))
+    (not-true (put .result) (c .if1 .taken))
 
 returns-2 : tie.Need-returns-2
 unfolding declined3
 returns-2 c =
     let a = c .before .before .before .before .before .before .before .before .args in
+    let put = c .before .before .before .put in
+    let make-head = c .before .before .before .before .before .before .make-head in
     one-yes (declined3 (a .self)) (a .out .now) 8 _ _ refl
-    (put-of (a .out .now) 0 (c .before .before .before .before .before .before .begin .result) (declined3 (a .self)) _ _ (c .before .before .before .before .before .before .begin .ensures) (c .before .before .before .put .ensures))
-    (not-false (c .before .before .before .put .result) (c .if1 .left))
+    (put-of (a .out .now) 0 (make-head .result) (declined3 (a .self)) _ _ (make-head .ensures) (put .ensures))
+    (not-false (put .result) (c .if1 .left))
 
 pub decline-spec : {M : Type 1} → statement M
 decline-spec =

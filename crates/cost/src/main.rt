@@ -19,7 +19,7 @@ struct Found {
     ends: usize,
 }
 
-fn session() -> SubState {
+fn make_session() -> SubState {
     let sik = [0x5Au8; 20];
     SubState {
         keys: Keys::from_sik(sik),
@@ -29,7 +29,7 @@ fn session() -> SubState {
 }
 
 // Room for the longest payload and for its packet.
-fn room() -> [u8; 1100]
+fn make_room() -> [u8; 1100]
     ensures { λ r. ⌜ 1100 ≡ length r ⌝ }
 {
     [0u8; 1100]
@@ -45,7 +45,7 @@ fn fill(s: &mut [u8]) {
 }
 
 // The payload's length for a digit, 0 where there is none for it.
-fn size(digit: u8) -> usize
+fn find_size(digit: u8) -> usize
     ensures { λ r. ⌜ r ≤ 1024 ⌝ }
 {
     match digit {
@@ -56,12 +56,12 @@ fn size(digit: u8) -> usize
     }
 }
 
-fn wide(x: u8) -> usize {
+fn widen(x: u8) -> usize {
     x as usize
 }
 
 // What was found before, and a packet or payload more, the first `len` bytes of `s`.
-fn also(before: Found, s: &[u8], len: usize) -> Found {
+fn add_found(before: Found, s: &[u8], len: usize) -> Found {
     if len == 0 {
         return before;
     }
@@ -70,12 +70,12 @@ fn also(before: Found, s: &[u8], len: usize) -> Found {
     }
     Found {
         lengths: std::num::wrapping_add_usize(before.lengths, len),
-        ends: std::num::wrapping_add_usize(before.ends, wide(s[len - 1])),
+        ends: std::num::wrapping_add_usize(before.ends, widen(s[len - 1])),
     }
 }
 
 // Writes the packet and answers its length, 0 where it was refused.
-fn written(s: SubState, payload: &[u8], out: &mut [u8]) -> usize {
+fn write_packet(s: SubState, payload: &[u8], out: &mut [u8]) -> usize {
     let iv = [7u8; 16];
     let w = frame::write_payload(s, PayloadType::IpmiMessage, 0x0A0B0C0D, 1, payload, iv, out);
     match w {
@@ -85,7 +85,7 @@ fn written(s: SubState, payload: &[u8], out: &mut [u8]) -> usize {
 }
 
 // Reads a copy of the packet and answers the payload's length, 0 where it was refused.
-fn read(s: SubState, packet: &[u8], copy: &mut [u8]) -> usize {
+fn read_packet(s: SubState, packet: &[u8], copy: &mut [u8]) -> usize {
     octets::put(copy, 0, packet);
     let r = frame::read_payload(s, copy);
     let answer = r.answer;
@@ -100,39 +100,39 @@ fn read(s: SubState, packet: &[u8], copy: &mut [u8]) -> usize {
     }
 }
 
-fn writes(s: SubState, payload: &[u8], out: &mut [u8], turns: usize) -> Found {
+fn repeat_write(s: SubState, payload: &[u8], out: &mut [u8], turns: usize) -> Found {
     let mut f = Found {
         lengths: 0,
         ends: 0,
     };
     let mut i: usize = 0;
     while i < turns {
-        let n = written(s, payload, out);
-        f = also(f, out, n);
+        let n = write_packet(s, payload, out);
+        f = add_found(f, out, n);
         i += 1;
     }
     f
 }
 
-fn reads(s: SubState, packet: &[u8], copy: &mut [u8], turns: usize) -> Found {
+fn repeat_read(s: SubState, packet: &[u8], copy: &mut [u8], turns: usize) -> Found {
     let mut f = Found {
         lengths: 0,
         ends: 0,
     };
     let mut i: usize = 0;
     while i < turns {
-        let n = read(s, packet, copy);
-        f = also(f, frame::payload(copy, true, n), n);
+        let n = read_packet(s, packet, copy);
+        f = add_found(f, frame::payload(copy, true, n), n);
         i += 1;
     }
     f
 }
 
-// The turns of reading: the packet is the first `n` bytes of `out`, and its copy has as many.
-fn reads_of(s: SubState, out: &[u8], copy: &mut [u8], n: usize, turns: usize) -> Found {
+// Cuts the two lent pieces and reads: the packet is the first `n` bytes of `out`, and its copy has as many.
+fn cut_and_read(s: SubState, out: &[u8], copy: &mut [u8], n: usize, turns: usize) -> Found {
     if n <= out.len() {
         if n <= copy.len() {
-            return reads(s, &out[..n], &mut copy[..n], turns);
+            return repeat_read(s, &out[..n], &mut copy[..n], turns);
         }
     }
     Found {
@@ -141,20 +141,20 @@ fn reads_of(s: SubState, out: &[u8], copy: &mut [u8], n: usize, turns: usize) ->
     }
 }
 
-fn writing(payload: &[u8], turns: usize) -> Found {
-    let mut out = room();
-    writes(session(), payload, &mut out, turns)
+fn run_write(payload: &[u8], turns: usize) -> Found {
+    let mut out = make_room();
+    repeat_write(make_session(), payload, &mut out, turns)
 }
 
-fn reading(payload: &[u8], turns: usize) -> Found {
-    let s = session();
-    let mut out = room();
-    let mut copy = room();
-    let n = written(s, payload, &mut out);
-    reads_of(s, &out, &mut copy, n, turns)
+fn run_read(payload: &[u8], turns: usize) -> Found {
+    let s = make_session();
+    let mut out = make_room();
+    let mut copy = make_room();
+    let n = write_packet(s, payload, &mut out);
+    cut_and_read(s, &out, &mut copy, n, turns)
 }
 
-fn digit(n: usize) -> u8 {
+fn spell_digit(n: usize) -> u8 {
     48 + (n % 10) as u8
 }
 
@@ -162,14 +162,14 @@ fn digit(n: usize) -> u8 {
 fn print(label: &[u8], n: usize) {
     let high = n / 10000;
     let digits = [
-        digit(high / 1000),
-        digit(high / 100),
-        digit(high / 10),
-        digit(high),
-        digit(n / 1000),
-        digit(n / 100),
-        digit(n / 10),
-        digit(n),
+        spell_digit(high / 1000),
+        spell_digit(high / 100),
+        spell_digit(high / 10),
+        spell_digit(high),
+        spell_digit(n / 1000),
+        spell_digit(n / 100),
+        spell_digit(n / 10),
+        spell_digit(n),
     ];
     io::write_all(STDOUT_FILENO, label);
     io::write_all(STDOUT_FILENO, &digits);
@@ -184,14 +184,14 @@ fn tell(verb: &[u8], turns: usize, f: Found) {
 }
 
 // The turns for a letter and a payload; false for another letter.
-fn turned(letter: u8, payload: &[u8], turns: usize) -> bool {
+fn run_letter(letter: u8, payload: &[u8], turns: usize) -> bool {
     match letter {
         b'r' => {
-            tell(b"read", turns, reading(payload, turns));
+            tell(b"read", turns, run_read(payload, turns));
             true
         }
         b'w' => {
-            tell(b"write", turns, writing(payload, turns));
+            tell(b"write", turns, run_write(payload, turns));
             true
         }
         _ => false,
@@ -203,20 +203,20 @@ fn run(given: &[u8], payload: &[u8]) -> bool {
     if given.len() < 2 {
         return false;
     }
-    let n = size(given[1]);
+    let n = find_size(given[1]);
     if n == 0 {
         return false;
     }
     if payload.len() < n {
         return false;
     }
-    turned(given[0], &payload[..n], given.len() - 2)
+    run_letter(given[0], &payload[..n], given.len() - 2)
 }
 
 fn main() {
     let mut input = io::buffer();
     let n = io::read_full(0, &mut input);
-    let mut payload = room();
+    let mut payload = make_room();
     fill(&mut payload);
     if !run(&input[..n], &payload) {
         io::write_all(STDOUT_FILENO, b"bad input\n");

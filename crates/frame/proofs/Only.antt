@@ -9,11 +9,14 @@ use Rattle.refusal.specs.Order.{Res, refuse}
 use Rattle.refusal.specs.Table.{numberOf, valueOf}
 use Rattle.refusal.proofs.Order.{accept-inj, refuse≢accept}
 use Rattle.refusal.proofs.Numbers.{told-one}
+use Rattle.refusal.proofs.Told.{outcome-one}
 use Rattle.frame.specs.Types.{typeNumber}
-use Rattle.frame.specs.Packet.{Message}
-use Rattle.frame.specs.Answers.{Shown, readTold, ReadPromise, writtenTold, WritePromise}
+use Rattle.framing.specs.Packet.{Message}
+use Rattle.framing.specs.Told.{Shown}
+use Rattle.frame.specs.Answers.{readTold, Tells, ReadPromise, writtenTold, WritePromise}
 use Rattle.frame.specs.declared.PayloadType.{PayloadType}
-use Rattle.frame.specs.declared.PayloadType.the-variants.{IpmiMessage, Sol, RmcpPlusOpenSessionRequest, RmcpPlusOpenSessionResponse, RakpMessage1, RakpMessage2, RakpMessage3, RakpMessage4}
+use Rattle.frame.specs.declared.PayloadType.the-variants.{IpmiMessage, Sol, RmcpPlusOpenSessionRequest, RmcpPlusOpenSessionResponse}
+use Rattle.frame.specs.declared.PayloadType.the-variants.{RakpMessage1, RakpMessage2, RakpMessage3, RakpMessage4}
 use Rattle.frame.specs.declared.Reading.{Reading}
 use Rattle.frame.specs.declared.Reading.the-variants.{Accepted, Refused}
 use Rattle.frame.specs.declared.Read.{Read}
@@ -23,6 +26,10 @@ use Rattle.frame.specs.declared.Written.the-variants.{Length}
 use Rattle.frame.proofs.PayloadType.number.Reads as number-reads
 use Rattle.frame.proofs.code_len.Reads as code-len-reads
 use Rattle.frame.proofs.place.payload.Reads as payload-reads
+use Rattle.frame.proofs.reader.read_checked.Reads as read-checked-reads
+use Rattle.frame.proofs.reader.read_with_code.Reads as read-with-code-reads
+use Rattle.frame.proofs.opening.open_in_place.Reads as open-in-place-reads
+use Rattle.frame.proofs.opening.check_outer.Reads as check-outer-reads
 use Rattle.frame.proofs.opening.read_payload.Reads as read-payload-reads
 use Rattle.frame.proofs.opening.read_datagram.Reads as read-datagram-reads
 use Rattle.frame.proofs.writer.write_payload.Reads as write-payload-reads
@@ -69,11 +76,15 @@ reading-one (Refused s) (Refused t) e =
     let f = number-one (numberOf s) (numberOf t) (valueOf s) (valueOf t) e in
     ap Refused (told-one s t (f .0) (f .1))
 
-promise-one : (R : Res Message) (n : ℕ) (left : List ℕ) (a b : Read) (x y : List ℕ) → ReadPromise R n left a x → ReadPromise R n left b y → (a ≡ b) × (x ≡ y)
-promise-one R n left a b x y p q =
-    let e : a .answer ≡ b .answer = reading-one _ _ (p .tells .answer ∙ sym (q .tells .answer)) in
-    let f : a .blocks ≡ b .blocks = p .tells .count ∙ sym (q .tells .count) in
-    (λ i. record { answer = e i; blocks = f i }, p .buffer ∙ sym (q .buffer))
+tells-one : (R : Res Message) (n : ℕ) (a b : Read) → Tells R n a → Tells R n b → a ≡ b
+tells-one R n a b p q =
+    let e : a .answer ≡ b .answer = reading-one _ _ (p .answer ∙ sym (q .answer)) in
+    let f : a .blocks ≡ b .blocks = p .count ∙ sym (q .count) in
+    λ i. record { answer = e i; blocks = f i }
+
+promise-one : (R : Res Message) (n : ℕ) (left : List ℕ) (a b : Read) (x y : List ℕ)
+    → ReadPromise R n left a x → ReadPromise R n left b y → (a ≡ b) × (x ≡ y)
+promise-one R n left a b x y p q = (tells-one R n a b (p .tells) (q .tells), p .buffer ∙ sym (q .buffer))
 
 pub number-only : (κs : _) (args : _) (a b : _) (s t : _) → number-reads.Post κs args a s → number-reads.Post κs args b t → a ≡ b
 number-only κs args a b s t p q = p .0 ∙ sym (q .0)
@@ -86,11 +97,28 @@ pub payload-only : (κs : _) (args : _) (a b : _) (s t : _) → payload-reads.Po
     → (now a ≡ now b) × (ptr a .0 ≡ ptr b .0) × (ptr a .1 ≡ ptr b .1)
 payload-only κs args a b s t p q = (p .0 ∙ sym (q .0), p .1 ∙ sym (q .1), p .2 ∙ sym (q .2))
 
-pub read-payload-only : (κs : _) (args : _) (a b : _) (s t : _) → read-payload-reads.Post κs args a s → read-payload-reads.Post κs args b t → (a ≡ b) × (now (s .1 .0) ≡ now (t .1 .0))
+pub read-checked-only : (κs : _) (args : _) (a b : _) (s t : _) → read-checked-reads.Post κs args a s → read-checked-reads.Post κs args b t → a ≡ b
+read-checked-only κs args a b s t p q = tells-one _ _ a b p q
+
+pub read-with-code-only : (κs : _) (args : _) (a b : _) (s t : _)
+    → read-with-code-reads.Post κs args a s → read-with-code-reads.Post κs args b t → a ≡ b
+read-with-code-only κs args a b s t p q = tells-one _ _ a b p q
+
+-- of the opening: what it leaves
+pub open-in-place-only : (κs : _) (args : _) (a b : _) (s t : _)
+    → open-in-place-reads.Post κs args a s → open-in-place-reads.Post κs args b t → now (s .1 .0) ≡ now (t .1 .0)
+open-in-place-only κs args a b s t p q = p ∙ sym q
+
+pub read-payload-only : (κs : _) (args : _) (a b : _) (s t : _)
+    → read-payload-reads.Post κs args a s → read-payload-reads.Post κs args b t → (a ≡ b) × (now (s .1 .0) ≡ now (t .1 .0))
 read-payload-only κs args a b s t p q = promise-one _ _ _ a b _ _ p q
 
-pub read-datagram-only : (κs : _) (args : _) (a b : _) (s t : _) → read-datagram-reads.Post κs args a s → read-datagram-reads.Post κs args b t → (a ≡ b) × (now (s .1 .0) ≡ now (t .1 .0))
+pub read-datagram-only : (κs : _) (args : _) (a b : _) (s t : _)
+    → read-datagram-reads.Post κs args a s → read-datagram-reads.Post κs args b t → (a ≡ b) × (now (s .1 .0) ≡ now (t .1 .0))
 read-datagram-only κs args a b s t p q = promise-one _ _ _ a b _ _ p q
+
+pub check-outer-only : (κs : _) (args : _) (a b : _) (s t : _) → check-outer-reads.Post κs args a s → check-outer-reads.Post κs args b t → a ≡ b
+check-outer-only κs args a b s t p q = outcome-one a b (p ∙ sym q)
 
 -- the writer's calls
 written-one : (a b : Written) → writtenTold a ≡ writtenTold b → a ≡ b

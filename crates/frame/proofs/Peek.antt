@@ -7,12 +7,12 @@ use mathlib.Core.Path.{_≡_, _∙_, ap}
 use lib.ListN.{length, getD, take, drop, length-drop}
 use Rattle.octets.specs.Place.{part}
 use Rattle.octets.specs.Equal.{same}
-use Rattle.frame.specs.Packet.{counting}
+use Rattle.framing.specs.Packet.{counting}
 use Rattle.frame.specs.Crypto.{uncbc}
 use Rattle.aes.specs.Key.{keyExpansion}
 use Rattle.cbc.specs.Cbc.{cbcDecrypt}
 use Rattle.cbc.proofs.Inverse.{decrypt-length}
-use Rattle.frame.proofs.Body.{part-part, last-byte}
+use Rattle.framing.proofs.Body.{part-part, last-byte}
 
 -- round keys k that are those of the key, and a body l
 module _ (k key l : List ℕ) (e : k ≡ keyExpansion key) (h : 32 ≤ length l) (g : length l % 16 ≡ 0) where

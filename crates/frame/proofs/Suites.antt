@@ -1,5 +1,5 @@
 -- The real algorithms keep what the theorems on frames ask of them: HMAC-SHA1-96 under K1 and AES-CBC under the AES key.
-use Prim.Native.Nat.{ℕ}
+use Prim.Native.Nat.{ℕ, _≤_}
 use native.Mathlib.Omega.{arith}
 use mathlib.Core.List.{List}
 use mathlib.Core.Logic.{_↔_}
@@ -13,21 +13,30 @@ use Rattle.cbc.proofs.Inverse.{encrypt-length, decrypt-length, decrypt-bytes, d
 use Rattle.keys.specs.Keys.{aesKeyOf}
 use Rattle.frame.specs.Types.{codeLength}
 use Rattle.refusal.specs.Order.{refuse, accept}
-use Rattle.frame.specs.Suite.{Laws}
-use Rattle.frame.specs.Packet.{Message}
-use Rattle.frame.specs.Read.{readOf}
-use Rattle.frame.specs.Outer.{writeOf}
+use Rattle.framing.specs.Suite.{Laws}
+use Rattle.framing.specs.Packet.{Message}
+use Rattle.framing.specs.Read.{readOf}
+use Rattle.framing.specs.Outer.{writeOf}
 use Rattle.frame.specs.Session.{suiteOf}
 use Rattle.frame.specs.declared.SubState.{SubState}
-use Rattle.frame.proofs.Head.{code-short}
-use Rattle.frame.proofs.RoundTrip.{Lengths, Given, round-trip}
-use Rattle.frame.proofs.Exactly.{FrameOf, accepts-exactly, refuses-exactly, only-message}
+use Rattle.frame.specs.declared.Integrity as I
+use Rattle.framing.proofs.RoundTrip.{Lengths, Given, round-trip}
+use Rattle.framing.proofs.Exactly.{FrameOf, accepts-exactly, refuses-exactly, only-message}
+
+-- no code is longer than what the hash computes, whatever the algorithm
+abbrev pub longestCode : ℕ
+longestCode = 20
+
+pub code-short : (i : I.Integrity) → codeLength i ≤ longestCode
+code-short I.the-variants.None = omega arith
+code-short I.the-variants.HmacSha1_96 = omega arith
 
 pub suite-lengths : (s : SubState) → Lengths (suiteOf s)
 suite-lengths s =
     record {
       mac-length =
-          λ l. length-take-le (codeLength (s .integrity)) (hmacSha1 (s .keys .k1) l) (omega (arith, mac-length (s .keys .k1) l, code-short (s .integrity)));
+          λ l. length-take-le (codeLength (s .integrity)) (hmacSha1 (s .keys .k1) l)
+          (omega (arith, mac-length (s .keys .k1) l, code-short (s .integrity)));
       enc-length = λ iv l h. encrypt-length (aesKeyOf (s .keys)) iv l h;
     }
 
@@ -50,11 +59,13 @@ module _ (s : SubState) (hk : Bytes (s .keys .k2)) where
   pub session-accepts : (l : List ℕ) → Bytes l → (M : Message) → (readOf (suiteOf s) l ≡ accept M) ↔ FrameOf (suiteOf s) M l
   session-accepts l hb M = accepts-exactly (suiteOf s) (suite-laws s hk) l hb M
 
-  pub session-refuses : (l : List ℕ) → Bytes l → ((n : ℕ) × (v : ℕ) × (readOf (suiteOf s) l ≡ refuse n v)) ↔ (((M : Message) × FrameOf (suiteOf s) M l) → ⊥)
+  pub session-refuses : (l : List ℕ) → Bytes l
+      → ((n : ℕ) × (v : ℕ) × (readOf (suiteOf s) l ≡ refuse n v)) ↔ (((M : Message) × FrameOf (suiteOf s) M l) → ⊥)
   session-refuses l hb = refuses-exactly (suiteOf s) (suite-laws s hk) l hb
 
   pub session-only : (M N : Message) (l : List ℕ) → FrameOf (suiteOf s) M l → FrameOf (suiteOf s) N l → M ≡ N
   session-only M N l f g = only-message (suiteOf s) (suite-laws s hk) M N l f g
 
-  pub session-round-trip : (M : Message) (iv : List ℕ) → Given (suiteOf s) M iv → (room : ℕ) (l : List ℕ) → writeOf (suiteOf s) M iv room ≡ accept l → readOf (suiteOf s) l ≡ accept M
+  pub session-round-trip : (M : Message) (iv : List ℕ) → Given (suiteOf s) M iv
+      → (room : ℕ) (l : List ℕ) → writeOf (suiteOf s) M iv room ≡ accept l → readOf (suiteOf s) l ≡ accept M
   session-round-trip M iv g room l e = round-trip (suiteOf s) (suite-laws s hk) M iv g room l e

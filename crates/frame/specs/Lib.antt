@@ -1,11 +1,4 @@
 pub mod Types
-pub mod Suite
-pub mod Packet
-pub mod Read
-pub mod Write
-pub mod Payload
-pub mod Outer
-pub mod Marked
 pub mod Crypto
 pub mod Session
 pub mod Answers

@@ -4,7 +4,7 @@ use Rattle.sha1.specs.Hash.{hmacSha1}
 use Rattle.cbc.specs.Cbc.{cbcEncrypt, cbcDecrypt}
 use Rattle.keys.specs.Keys.{aesKeyOf}
 use Rattle.frame.specs.Types.{encrypts, carriesCode, codeLength}
-use Rattle.frame.specs.Suite.{Suite}
+use Rattle.framing.specs.Suite.{Suite}
 use Rattle.frame.specs.Crypto.{macBlocks}
 use Rattle.frame.specs.declared.SubState.{SubState}
 

@@ -1,10 +1,9 @@
 -- The payload types and the session's algorithms (docs/RULES.md, 6.1 to 6.4).
 use Prim.Native.Nat.{ℕ}
 use mathlib.Core.Bool.{Bool, true, false}
-use mathlib.Core.List.{List, [], _∷_}
-use Rattle.refusal.specs.Table.{among}
 use Rattle.frame.specs.declared.PayloadType.{PayloadType}
-use Rattle.frame.specs.declared.PayloadType.the-variants.{IpmiMessage, Sol, RmcpPlusOpenSessionRequest, RmcpPlusOpenSessionResponse, RakpMessage1, RakpMessage2, RakpMessage3, RakpMessage4}
+use Rattle.frame.specs.declared.PayloadType.the-variants.{IpmiMessage, Sol, RmcpPlusOpenSessionRequest, RmcpPlusOpenSessionResponse}
+use Rattle.frame.specs.declared.PayloadType.the-variants.{RakpMessage1, RakpMessage2, RakpMessage3, RakpMessage4}
 use Rattle.frame.specs.declared.Confidentiality as C
 use Rattle.frame.specs.declared.Integrity as I
 
@@ -19,13 +18,6 @@ typeNumber RakpMessage2 = 0x13
 typeNumber RakpMessage3 = 0x14
 typeNumber RakpMessage4 = 0x15
 
-abbrev pub typeNumbers : List ℕ
-typeNumbers = 0x00 ∷ 0x01 ∷ 0x10 ∷ 0x11 ∷ 0x12 ∷ 0x13 ∷ 0x14 ∷ 0x15 ∷ []
-
--- whether a number stands for a type: these eight do, and no other
-unfoldable pub known : ℕ → Bool
-known t = among t typeNumbers
-
 -- whether a session encrypts
 abbrev pub encrypts : C.Confidentiality → Bool
 encrypts C.the-variants.None = false
@@ -36,7 +28,7 @@ abbrev pub carriesCode : I.Integrity → Bool
 carriesCode I.the-variants.None = false
 carriesCode I.the-variants.HmacSha1_96 = true
 
--- the length of the code that the ceiling of reading allows for; without integrity it stands in the ceiling alone
+-- the length of the code (6.4); without integrity it stands in the ceiling of reading alone (6.12)
 abbrev pub codeLength : I.Integrity → ℕ
 codeLength I.the-variants.None = 12
 codeLength I.the-variants.HmacSha1_96 = 12

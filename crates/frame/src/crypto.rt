@@ -3,23 +3,42 @@ ghost use mathlib.Core.Path.{_≡_};
 ghost use Prim.Native.Nat.{_+_, _-_, _%_, _≤_};
 ghost use lib.ListN.{length, take, drop};
 ghost use Rattle.octets.specs.Place.{part};
-ghost use Rattle.sha1.specs.Hash.{hmacSha1};
+ghost use Rattle.running.specs.Promise.{limit};
 ghost use Rattle.aes.specs.Schedule.{keysOf};
 ghost use Rattle.cbc.specs.Cbc.{cbcEncrypt, cbcDecrypt};
-ghost use Rattle.frame.specs.Crypto.{macBlocks, uncbc};
+ghost use Rattle.frame.specs.Session.{suiteOf};
+ghost use Rattle.frame.specs.Crypto.{uncbc};
+use crate::SubState;
 use aes::Aes128;
 
-// A code as the hash computed it, and how many blocks it compressed.
+// How many bytes the hash computes.
+const DIGEST_LEN: usize = 20;
+
+// A code as the hash computed it, of which packets carry the first bytes, and how many blocks it compressed.
 pub(crate) struct Code {
-    pub code: [u8; 20],
+    pub code: [u8; DIGEST_LEN],
     pub blocks: u32,
 }
 
-pub(crate) fn code_of(key: [u8; 20], s: &[u8]) -> Code
-    requires { ⌜ length (now s) ≤ 1048576 ⌝ }
-    ensures { λ r. ⌜ (r .code ≡ hmacSha1 key (now (s .entry))) × (r .blocks ≡ macBlocks (length (now (s .entry)))) ⌝ }
+// What stands where no code is computed.
+pub(crate) fn skip_code() -> Code
+    ensures { λ r. ⌜ r .blocks ≡ 0 ⌝ }
 {
-    let h = sha1::hmac(&key, s);
+    Code {
+        code: [0u8; DIGEST_LEN],
+        blocks: 0,
+    }
+}
+
+// The code of some bytes under the session's integrity key.
+pub(crate) fn make_code(s: SubState, bytes: &[u8]) -> Code
+    requires { ⌜ length (now bytes) ≤ limit ⌝ }
+    ensures { λ r. ⌜ (take (suiteOf s .m) (r .code) ≡ suiteOf s .mac (now (bytes .entry)))
+        × (r .blocks ≡ suiteOf s .blocks (length (now (bytes .entry)))) ⌝ }
+{
+    let keys = s.keys;
+    let key = keys.k1;
+    let h = sha1::hmac(&key, bytes);
     let code = h.digest;
     Code {
         code,
@@ -28,7 +47,7 @@ pub(crate) fn code_of(key: [u8; 20], s: &[u8]) -> Code
 }
 
 // The block of plain text at `at` of an encrypted body: the inverse cipher of that block, and the block before it added.
-pub(crate) fn plain_block(w: Aes128, body: &[u8], at: usize) -> [u8; 16]
+pub(crate) fn decrypt_block(w: Aes128, body: &[u8], at: usize) -> [u8; 16]
     requires { ⌜ (16 ≤ at) × (at % 16 ≡ 0) × (at + 16 ≤ length (now body)) ⌝ }
     ensures { λ r. ⌜ r ≡ part (uncbc (keysOf w) (take 16 (now (body .entry))) (drop 16 (now (body .entry)))) (at - 16) 16 ⌝ }
 {

@@ -1,8 +1,10 @@
 // Session packets and datagrams: the reader, the writer, and the payload's place.
 ghost use mathlib.Core.Path.{_≡_};
 ghost use Prim.Native.Nat.{_<_};
+ghost use Rattle.framing.specs.Packet.{bit};
+ghost use Rattle.framing.specs.Read.{longestPacket};
 ghost use Rattle.frame.specs.Types.{typeNumber, codeLength, encrypts, carriesCode};
-ghost use Rattle.frame.specs.Packet.{bit};
+ghost use Rattle.frame.specs.Session.{suiteOf};
 use keys::Keys;
 use refusal::Refusal;
 
@@ -12,9 +14,13 @@ mod place;
 mod reader;
 mod writer;
 
+pub use opening::check_outer;
+pub use opening::open_in_place;
 pub use opening::read_datagram;
 pub use opening::read_payload;
 pub use place::payload;
+pub use reader::read_checked;
+pub use reader::read_with_code;
 pub use writer::write_datagram;
 pub use writer::write_payload;
 
@@ -108,22 +114,37 @@ pub fn code_len(i: Integrity) -> usize
     }
 }
 
-// Bit 7 of a packet's second byte.
-pub(crate) fn aes_bit(c: Confidentiality) -> u8
-    ensures { λ r. ⌜ r ≡ bit (encrypts c) ⌝ }
+// Whether packets carry a code.
+pub(crate) fn carries_code(i: Integrity) -> bool
+    ensures { λ r. ⌜ r ≡ carriesCode i ⌝ }
 {
-    match c {
-        Confidentiality::None => 0,
-        Confidentiality::AesCbc128 => 1,
+    match i {
+        Integrity::None => false,
+        Integrity::HmacSha1_96 => true,
     }
 }
 
-// Bit 6.
-pub(crate) fn code_bit(i: Integrity) -> u8
-    ensures { λ r. ⌜ r ≡ bit (carriesCode i) ⌝ }
+// Whether bodies are encrypted.
+pub(crate) fn encrypts(c: Confidentiality) -> bool
+    ensures { λ r. ⌜ r ≡ encrypts c ⌝ }
 {
-    match i {
-        Integrity::None => 0,
-        Integrity::HmacSha1_96 => 1,
+    match c {
+        Confidentiality::None => false,
+        Confidentiality::AesCbc128 => true,
     }
+}
+
+// The bit that says so in a packet's second byte.
+pub(crate) fn make_bit(b: bool) -> u8
+    ensures { λ r. ⌜ r ≡ bit b ⌝ }
+{
+    if b { 1 } else { 0 }
+}
+
+// The longest packet that is read.
+pub(crate) fn find_longest_packet(s: SubState) -> usize
+    ensures { λ r. ⌜ r ≡ longestPacket (suiteOf s) ⌝ }
+{
+    let i = s.integrity;
+    65804 + code_len(i)
 }

@@ -1,19 +1,20 @@
 // The reader's calls: a packet that every check lets pass is opened in its own buffer, any other stays as found.
 ghost use mathlib.Core.Path.{_≡_};
-ghost use mathlib.Core.Bool.{true};
+ghost use mathlib.Core.Bool.{cond};
 ghost use Prim.Native.Nat.{_+_, _-_, _%_, _≤_};
-ghost use lib.ListN.{length, take, drop};
+ghost use lib.ListN.{length};
 ghost use Rattle.octets.specs.Place.{part, pasted};
-ghost use Rattle.frame.specs.Read.{bodyLength, readOf, opened, leftOf, blocksOf, accepts};
-ghost use Rattle.frame.specs.Outer.{readDatagramOf, leftDatagram, blocksDatagram};
+ghost use Rattle.framing.specs.Read.{bodyLength, readOf, openable, opened, leftOf, blocksOf, accepts};
+ghost use Rattle.framing.specs.Outer.{outerOf, readDatagramOf, leftDatagram, blocksDatagram};
 ghost use Rattle.frame.specs.Session.{suiteOf};
-ghost use Rattle.frame.specs.Answers.{readTold, ReadPromise, Openable};
-use crate::Confidentiality;
+ghost use Rattle.refusal.specs.Outcome.{told};
+ghost use Rattle.frame.specs.Answers.{readTold, ReadPromise};
 use crate::Read;
 use crate::Reading;
 use crate::SubState;
 use crate::crypto;
 use crate::reader;
+use refusal::Outcome;
 use refusal::Refusal;
 
 fn is_accepted(a: Reading) -> bool
@@ -30,10 +31,25 @@ fn is_accepted(a: Reading) -> bool
     }
 }
 
+// Whether a packet has an encrypted body that lies within it.
+fn is_openable(packet: &[u8]) -> bool
+    ensures { λ r. ⌜ r ≡ openable (now (packet .entry)) ⌝ }
+{
+    let n = octets::load_le2(packet, 10) as usize;
+    if n < 16 {
+        return false;
+    }
+    if (n - 16) % 16 != 0 {
+        return false;
+    }
+    12 + n <= packet.len()
+}
+
 // The part between the IV and the trailer is decrypted in its place.
 fn decrypt_body(s: SubState, packet: &mut [u8])
-    requires { ⌜ Openable (now packet) ⌝ }
-    ensures { λ _. ⌜ now (packet .exit) ≡ pasted (now (packet .entry)) 28 (suiteOf s .dec (part (now (packet .entry)) 12 16) (part (now (packet .entry)) 28 (bodyLength (now (packet .entry)) - 16))) ⌝ }
+    requires { ⌜ (16 ≤ bodyLength (now packet)) × ((bodyLength (now packet) - 16) % 16 ≡ 0) × (12 + bodyLength (now packet) ≤ length (now packet)) ⌝ }
+    ensures { λ _. ⌜ now (packet .exit) ≡ pasted (now (packet .entry)) 28
+        (suiteOf s .dec (part (now (packet .entry)) 12 16) (part (now (packet .entry)) 28 (bodyLength (now (packet .entry)) - 16))) ⌝ }
 {
     let n = octets::load_le2(packet, 10) as usize;
     let iv = octets::block(packet, 12);
@@ -43,46 +59,59 @@ fn decrypt_body(s: SubState, packet: &mut [u8])
     crypto::decrypt(key, iv, &mut packet[28..end]);
 }
 
-// Without AES nothing changes.
-fn open_body(s: SubState, packet: &mut [u8])
-    requires { ⌜ (suiteOf s .aes ≡ true → Openable (now packet)) ⌝ }
-    ensures { λ _. ⌜ now (packet .exit) ≡ opened (suiteOf s) (now (packet .entry)) ⌝ }
+// Opens a packet in its own buffer. Without AES, and where the packet has no such body, nothing changes. It checks nothing else: a
+// packet to open is one that a reading has accepted.
+pub fn open_in_place(s: SubState, packet: &mut [u8])
+    ensures { λ _. ⌜ now (packet .exit) ≡ cond (openable (now (packet .entry))) (opened (suiteOf s) (now (packet .entry))) (now (packet .entry)) ⌝ }
 {
     let c = s.confidentiality;
-    match c {
-        Confidentiality::None => {}
-        Confidentiality::AesCbc128 => decrypt_body(s, packet),
+    if !crate::encrypts(c) {
+        return;
     }
+    if !is_openable(packet) {
+        return;
+    }
+    decrypt_body(s, packet);
 }
 
 // Reads a packet of a session.
 pub fn read_payload(s: SubState, packet: &mut [u8]) -> Read
-    ensures { λ r. ⌜ ReadPromise (readOf (suiteOf s) (now (packet .entry))) (blocksOf (suiteOf s) (now (packet .entry))) (leftOf (suiteOf s) (now (packet .entry))) r (now (packet .exit)) ⌝ }
+    ensures { λ r. ⌜ ReadPromise (readOf (suiteOf s) (now (packet .entry)))
+        (blocksOf (suiteOf s) (now (packet .entry))) (leftOf (suiteOf s) (now (packet .entry))) r (now (packet .exit)) ⌝ }
 {
     let r = reader::read_checked(s, packet);
     let a = r.answer;
     if is_accepted(a) {
-        open_body(s, packet);
+        open_in_place(s, packet);
     }
     r
 }
 
-// Reads a datagram: the four outer bytes, then a packet.
-pub fn read_datagram(s: SubState, datagram: &mut [u8]) -> Read
-    ensures { λ r. ⌜ ReadPromise (readDatagramOf (suiteOf s) (now (datagram .entry))) (blocksDatagram (suiteOf s) (now (datagram .entry))) (leftDatagram (suiteOf s) (now (datagram .entry))) r (now (datagram .exit)) ⌝ }
+// Whether a datagram begins with the four outer bytes, behind which a packet stands.
+pub fn check_outer(datagram: &[u8]) -> Outcome
+    ensures { λ r. ⌜ told r ≡ outerOf (now (datagram .entry)) ⌝ }
 {
     if datagram.len() < 4 {
-        return Read {
-            answer: Reading::Refused(Refusal::NotEnoughData),
-            blocks: 0,
-        };
+        return Outcome::Refused(Refusal::NotEnoughData);
     }
     let outer = crate::OUTER;
     if !octets::same(&datagram[..4], &outer) {
-        return Read {
-            answer: Reading::Refused(Refusal::NotRmcpForIpmi),
-            blocks: 0,
-        };
+        return Outcome::Refused(Refusal::NotRmcpForIpmi);
     }
-    read_payload(s, &mut datagram[4..])
+    Outcome::Done
+}
+
+// Reads a datagram: the four outer bytes, then a packet.
+pub fn read_datagram(s: SubState, datagram: &mut [u8]) -> Read
+    ensures { λ r. ⌜ ReadPromise (readDatagramOf (suiteOf s) (now (datagram .entry)))
+        (blocksDatagram (suiteOf s) (now (datagram .entry))) (leftDatagram (suiteOf s) (now (datagram .entry))) r (now (datagram .exit)) ⌝ }
+{
+    let o = check_outer(datagram);
+    match o {
+        Outcome::Refused(r) => Read {
+            answer: Reading::Refused(r),
+            blocks: 0,
+        },
+        Outcome::Done => read_payload(s, &mut datagram[4..]),
+    }
 }

@@ -1,19 +1,22 @@
 // Reading a packet, stage by stage: each answers what the definition of its stage says.
 ghost use mathlib.Core.Path.{_≡_};
-ghost use Rattle.refusal.specs.Order.{need, accept};
-ghost use Rattle.frame.specs.Types.{known, typeNumber};
+ghost use mathlib.Core.Bool.{cond};
 ghost use Prim.Native.Nat.{_+_, _-_, _%_, _≤_, _<_};
 ghost use lib.ListN.{length, take, drop};
-ghost use Rattle.aes.specs.Schedule.{keysOf};
-ghost use Rattle.frame.specs.Crypto.{uncbc};
+ghost use Rattle.refusal.specs.Order.{need, accept};
 ghost use Rattle.octets.specs.Place.{part};
 ghost use Rattle.octets.specs.Equal.{same};
-ghost use Rattle.frame.specs.Packet.{counting};
-ghost use Rattle.frame.specs.Read.{headOf, trailerOf, beforeTrailer, unpadded, decrypted, payloadIn, bodyIn, payloadBehind, restOf, readOf, blocksOf};
+ghost use Rattle.running.specs.Promise.{limit};
+ghost use Rattle.aes.specs.Schedule.{keysOf};
+ghost use Rattle.framing.specs.Known.{known};
+ghost use Rattle.framing.specs.Packet.{counting};
+ghost use Rattle.framing.specs.Read.{headOf, trailerOf, beforeTrailer, unpadded, decrypted, payloadIn, bodyIn, payloadBehind, restOf};
+ghost use Rattle.framing.specs.Read.{readWith, readOf, hasCode, blocksWith, blocksOf, Computed};
+ghost use Rattle.framing.specs.Told.{counted};
+ghost use Rattle.frame.specs.Types.{typeNumber};
+ghost use Rattle.frame.specs.Crypto.{uncbc};
 ghost use Rattle.frame.specs.Session.{suiteOf};
-ghost use Rattle.frame.specs.Answers.{headTold, stepTold, counted, Tells, Computed};
-use crate::Confidentiality;
-use crate::Integrity;
+ghost use Rattle.frame.specs.Answers.{headTold, stepTold, Tells};
 use crate::PayloadType;
 use crate::Read;
 use crate::Reading;
@@ -31,7 +34,7 @@ pub(crate) enum Headed {
 }
 
 // The type that a number stands for.
-fn payload_type(n: u8) -> Headed
+fn find_type(n: u8) -> Headed
     ensures { λ r. ⌜ headTold r ≡ need (known n) 3 n (accept n) ⌝ }
 {
     match n {
@@ -48,7 +51,7 @@ fn payload_type(n: u8) -> Headed
 }
 
 // The checks that need no code: first byte, type, the two bits, the ceiling.
-fn head(s: SubState, packet: &[u8]) -> Headed
+fn check_head(s: SubState, packet: &[u8]) -> Headed
     ensures { λ r. ⌜ headTold r ≡ headOf (suiteOf s) (now (packet .entry)) ⌝ }
 {
     if packet.len() < 10 {
@@ -58,32 +61,32 @@ fn head(s: SubState, packet: &[u8]) -> Headed
         return Headed::Stop(Refusal::NotIpmiV2_0);
     }
     let flags = packet[1];
-    let found = payload_type(flags % 64);
+    let found = find_type(flags % 64);
     let Headed::Type(_) = found else {
         return found;
     };
     let c = s.confidentiality;
     let i = s.integrity;
-    if flags / 128 % 2 != crate::aes_bit(c) {
+    if flags / 128 % 2 != crate::make_bit(crate::encrypts(c)) {
         return Headed::Stop(Refusal::MismatchingEncryptionState);
     }
-    if flags / 64 % 2 != crate::code_bit(i) {
+    if flags / 64 % 2 != crate::make_bit(crate::carries_code(i)) {
         return Headed::Stop(Refusal::MismatchingAuthenticationState);
     }
-    if packet.len() > 65804 + crate::code_len(i) {
+    if packet.len() > crate::find_longest_packet(s) {
         return Headed::Stop(Refusal::IncorrectPayloadLen);
     }
     found
 }
 
-fn wide(x: u8) -> usize
+fn widen(x: u8) -> usize
     ensures { λ r. ⌜ (r ≡ x) × (r < 256) ⌝ }
 {
     x as usize
 }
 
 // How many bytes are left before the trailer, given the code that the packet ought to end with.
-fn trailer(s: SubState, code: &[u8], packet: &[u8]) -> Step
+fn check_trailer(s: SubState, code: &[u8], packet: &[u8]) -> Step
     ensures { λ r. ⌜ stepTold r ≡ trailerOf (suiteOf s) (now (code .entry)) (now (packet .entry)) ⌝ }
 {
     let i = s.integrity;
@@ -102,7 +105,7 @@ fn trailer(s: SubState, code: &[u8], packet: &[u8]) -> Step
     if next != 0x07 {
         return Step::Stop(Refusal::UnknownNextHeader(next));
     }
-    let q = wide(packet[k - 2]);
+    let q = widen(packet[k - 2]);
     if k - 2 < q {
         return Step::Go(0);
     }
@@ -110,24 +113,25 @@ fn trailer(s: SubState, code: &[u8], packet: &[u8]) -> Step
 }
 
 // Without integrity there is no trailer.
-fn before_trailer(s: SubState, code: &[u8], packet: &[u8]) -> Step
+fn strip_trailer(s: SubState, code: &[u8], packet: &[u8]) -> Step
     ensures { λ r. ⌜ stepTold r ≡ beforeTrailer (suiteOf s) (now (code .entry)) (now (packet .entry)) ⌝ }
 {
     let i = s.integrity;
-    match i {
-        Integrity::None => Step::Go(packet.len()),
-        Integrity::HmacSha1_96 => trailer(s, code, packet),
+    if crate::carries_code(i) {
+        check_trailer(s, code, packet)
+    } else {
+        Step::Go(packet.len())
     }
 }
 
 // Whether the p bytes from `a` on are 1, 2, .. p.
-fn counts(x: &[u8], a: usize, p: usize) -> bool
+fn check_pad(x: &[u8], a: usize, p: usize) -> bool
     requires { ⌜ (a + p ≤ length (now x)) × (p < 256) ⌝ }
     ensures { λ r. ⌜ r ≡ same (part (now (x .entry)) a p) (counting p) ⌝ }
 {
     let mut i: usize = 0;
     while i < p {
-        if wide(x[a + i]) != i + 1 {
+        if widen(x[a + i]) != i + 1 {
             return false;
         }
         i += 1;
@@ -136,15 +140,16 @@ fn counts(x: &[u8], a: usize, p: usize) -> bool
 }
 
 // The last t bytes of the plain text of an encrypted body; past them zeros.
-fn tail_of(w: Aes128, body: &[u8], t: usize) -> [u8; 256]
+fn decrypt_tail(w: Aes128, body: &[u8], t: usize) -> [u8; 256]
     requires { ⌜ (length (now body) % 16 ≡ 0) × (t % 16 ≡ 0) × (t ≤ 256) × (t + 16 ≤ length (now body)) ⌝ }
-    ensures { λ r. ⌜ take t r ≡ part (uncbc (keysOf w) (take 16 (now (body .entry))) (drop 16 (now (body .entry)))) (length (now (body .entry)) - 16 - t) t ⌝ }
+    ensures { λ r. ⌜ take t r
+        ≡ part (uncbc (keysOf w) (take 16 (now (body .entry))) (drop 16 (now (body .entry)))) (length (now (body .entry)) - 16 - t) t ⌝ }
 {
     let mut tail = [0u8; 256];
     let start = body.len() - t;
     let mut i: usize = 0;
     while i < t {
-        let b = crypto::plain_block(w, body, start + i);
+        let b = crypto::decrypt_block(w, body, start + i);
         octets::put(&mut tail, i, &b);
         i += 16;
     }
@@ -152,7 +157,7 @@ fn tail_of(w: Aes128, body: &[u8], t: usize) -> [u8; 256]
 }
 
 // What stands before the pad of an encrypted body of whole blocks: the pad is looked at before anything changes.
-fn unpad(s: SubState, body: &[u8]) -> Step
+fn strip_pad(s: SubState, body: &[u8]) -> Step
     requires { ⌜ (32 ≤ length (now body)) × (length (now body) % 16 ≡ 0) ⌝ }
     ensures { λ r. ⌜ stepTold r ≡ counted (unpadded (suiteOf s .dec (take 16 (now (body .entry))) (drop 16 (now (body .entry))))) ⌝ }
 {
@@ -160,21 +165,21 @@ fn unpad(s: SubState, body: &[u8]) -> Step
     let key = keys.aes_key();
     let w = Aes128::new(key);
     let n = body.len() - 16;
-    let last = crypto::plain_block(w, body, n);
-    let p = wide(last[15]);
+    let last = crypto::decrypt_block(w, body, n);
+    let p = widen(last[15]);
     if n <= p {
         return Step::Stop(Refusal::IncorrectConfidentialityTrailerLen);
     }
     let t = (p / 16 + 1) * 16;
-    let tail = tail_of(w, body, t);
-    if !counts(&tail, t - 1 - p, p) {
+    let tail = decrypt_tail(w, body, t);
+    if !check_pad(&tail, t - 1 - p, p) {
         return Step::Stop(Refusal::InvalidConfidentialityTrailer);
     }
     Step::Go(n - 1 - p)
 }
 
 // An encrypted body: the IV, then whole blocks, at least one.
-fn decrypted(s: SubState, body: &[u8]) -> Step
+fn read_encrypted(s: SubState, body: &[u8]) -> Step
     ensures { λ r. ⌜ stepTold r ≡ counted (decrypted (suiteOf s) (now (body .entry))) ⌝ }
 {
     if body.len() < 16 {
@@ -187,22 +192,23 @@ fn decrypted(s: SubState, body: &[u8]) -> Step
     if n == 0 {
         return Step::Stop(Refusal::IncorrectConfidentialityTrailerLen);
     }
-    unpad(s, body)
+    strip_pad(s, body)
 }
 
 // Without AES the body is the payload.
-fn payload_in(s: SubState, body: &[u8]) -> Step
+fn read_body(s: SubState, body: &[u8]) -> Step
     ensures { λ r. ⌜ stepTold r ≡ counted (payloadIn (suiteOf s) (now (body .entry))) ⌝ }
 {
     let c = s.confidentiality;
-    match c {
-        Confidentiality::None => Step::Go(body.len()),
-        Confidentiality::AesCbc128 => decrypted(s, body),
+    if crate::encrypts(c) {
+        read_encrypted(s, body)
+    } else {
+        Step::Go(body.len())
     }
 }
 
 // Header and body, once the trailer is off: the payload's length.
-fn body(s: SubState, left: &[u8]) -> Step
+fn check_body(s: SubState, left: &[u8]) -> Step
     ensures { λ r. ⌜ stepTold r ≡ counted (bodyIn (suiteOf s) (now (left .entry))) ⌝ }
 {
     if left.len() < 12 {
@@ -212,25 +218,25 @@ fn body(s: SubState, left: &[u8]) -> Step
     if n != left.len() - 12 {
         return Step::Stop(Refusal::IncorrectPayloadLen);
     }
-    payload_in(s, &left[12..])
+    read_body(s, &left[12..])
 }
 
 // The payload's length behind the head, given the code that the packet ought to end with.
-fn payload_behind(s: SubState, code: &[u8], packet: &[u8]) -> Step
+fn find_payload(s: SubState, code: &[u8], packet: &[u8]) -> Step
     ensures { λ r. ⌜ stepTold r ≡ counted (payloadBehind (suiteOf s) (now (code .entry)) (now (packet .entry))) ⌝ }
 {
-    let t = before_trailer(s, code, packet);
+    let t = strip_trailer(s, code, packet);
     match t {
         Step::Stop(_) => t,
-        Step::Go(n) => body(s, &packet[..n]),
+        Step::Go(n) => check_body(s, &packet[..n]),
     }
 }
 
 // All behind the head, given that code and how many blocks it took.
-fn rest(s: SubState, ty: PayloadType, code: &[u8], blocks: u32, packet: &[u8]) -> Read
+fn read_rest(s: SubState, ty: PayloadType, code: &[u8], blocks: u32, packet: &[u8]) -> Read
     ensures { λ r. ⌜ Tells (restOf (suiteOf s) (now (code .entry)) (now (packet .entry)) (typeNumber ty)) blocks r ⌝ }
 {
-    let f = payload_behind(s, code, packet);
+    let f = find_payload(s, code, packet);
     match f {
         Step::Stop(r) => Read {
             answer: Reading::Refused(r),
@@ -252,53 +258,79 @@ fn rest(s: SubState, ty: PayloadType, code: &[u8], blocks: u32, packet: &[u8]) -
     }
 }
 
-// The code that a packet ought to end with, where the session has integrity and the packet is long enough to have one.
-fn integrity_code(s: SubState, packet: &[u8]) -> Code
-    requires { ⌜ length (now packet) ≤ 1048576 ⌝ }
-    ensures { λ r. ⌜ Computed (suiteOf s) (now (packet .entry)) (take (suiteOf s .m) (r .code)) (r .blocks) ⌝ }
+// Whether there is a code to compare: packets carry one, and this one is long enough for it.
+fn has_code(s: SubState, packet: &[u8]) -> bool
+    ensures { λ r. ⌜ r ≡ hasCode (suiteOf s) (now (packet .entry)) ⌝ }
 {
     let i = s.integrity;
-    let m = crate::code_len(i);
-    if crate::code_bit(i) == 0 {
-        return Code {
-            code: [0u8; 20],
-            blocks: 0,
-        };
+    if crate::carries_code(i) {
+        crate::code_len(i) <= packet.len()
+    } else {
+        false
     }
-    if packet.len() < m {
-        return Code {
-            code: [0u8; 20],
-            blocks: 0,
-        };
+}
+
+// The code that a packet ought to end with, if there is one to compare.
+fn expect_code(s: SubState, packet: &[u8]) -> Code
+    requires { ⌜ length (now packet) ≤ limit ⌝ }
+    ensures { λ r. ⌜ Computed (suiteOf s) (now (packet .entry)) (take (suiteOf s .m) (r .code)) (r .blocks) ⌝ }
+{
+    if !has_code(s, packet) {
+        return crypto::skip_code();
     }
-    let keys = s.keys;
-    let key = keys.k1;
-    let k = packet.len() - m;
-    crypto::code_of(key, &packet[..k])
+    let i = s.integrity;
+    let k = packet.len() - crate::code_len(i);
+    crypto::make_code(s, &packet[..k])
 }
 
 // A packet that its head lets pass: the code is computed, then the rest is checked.
-fn read_behind(s: SubState, ty: PayloadType, packet: &[u8]) -> Read
+fn read_behind_head(s: SubState, ty: PayloadType, packet: &[u8]) -> Read
     requires { ⌜ headOf (suiteOf s) (now packet) ≡ accept (typeNumber ty) ⌝ }
     ensures { λ r. ⌜ Tells (readOf (suiteOf s) (now (packet .entry))) (blocksOf (suiteOf s) (now (packet .entry))) r ⌝ }
 {
     let i = s.integrity;
     let m = crate::code_len(i);
-    let c = integrity_code(s, packet);
+    let c = expect_code(s, packet);
     let code = c.code;
-    rest(s, ty, &code[..m], c.blocks, packet)
+    read_rest(s, ty, &code[..m], c.blocks, packet)
 }
 
-// Every check, before a byte changes.
-pub(crate) fn read_checked(s: SubState, packet: &[u8]) -> Read
+// Every check of a packet of a session, before a byte changes.
+pub fn read_checked(s: SubState, packet: &[u8]) -> Read
     ensures { λ r. ⌜ Tells (readOf (suiteOf s) (now (packet .entry))) (blocksOf (suiteOf s) (now (packet .entry))) r ⌝ }
 {
-    let h = head(s, packet);
+    let h = check_head(s, packet);
     match h {
         Headed::Stop(r) => Read {
             answer: Reading::Refused(r),
             blocks: 0,
         },
-        Headed::Type(ty) => read_behind(s, ty, packet),
+        Headed::Type(ty) => read_behind_head(s, ty, packet),
+    }
+}
+
+// The blocks that are told, of as many as the code took.
+fn tell_blocks(s: SubState, blocks: u32, packet: &[u8]) -> u32
+    ensures { λ r. ⌜ r ≡ cond (hasCode (suiteOf s) (now (packet .entry))) blocks 0 ⌝ }
+{
+    if has_code(s, packet) { blocks } else { 0 }
+}
+
+// The same checks for a caller who has computed the code that the packet ought to end with: it is handed in, with the blocks that
+// it took.
+pub fn read_with_code(s: SubState, code: &[u8], blocks: u32, packet: &[u8]) -> Read
+    ensures { λ r. ⌜ Tells (readWith (suiteOf s) (now (code .entry)) (now (packet .entry)))
+        (blocksWith (suiteOf s) blocks (now (packet .entry))) r ⌝ }
+{
+    let h = check_head(s, packet);
+    match h {
+        Headed::Stop(r) => Read {
+            answer: Reading::Refused(r),
+            blocks: 0,
+        },
+        Headed::Type(ty) => {
+            let n = tell_blocks(s, blocks, packet);
+            read_rest(s, ty, code, n, packet)
+        }
     }
 }

@@ -6,13 +6,12 @@ ghost use Prim.Native.Nat.{_+_, _-_, _≤_, _<_};
 ghost use lib.ListN.{length, take, replicate};
 ghost use Rattle.octets.specs.Place.{pasted, begun};
 ghost use Rattle.frame.specs.Types.{encrypts, typeNumber};
-ghost use Rattle.frame.specs.Packet.{headerOf, counting, plainOf};
-ghost use Rattle.frame.specs.Write.{leastP, leastQ, bodySize, packetSize, roomOf, longestPayload, ourBody, ourPads, ours};
+ghost use Rattle.framing.specs.Packet.{headerOf, counting, plainOf};
+ghost use Rattle.framing.specs.Write.{leastP, leastQ, bodySize, packetSize, roomOf, longestPayload, ourBody, ourPads, ours};
 ghost use Rattle.frame.specs.Session.{suiteOf};
 ghost use Rattle.frame.specs.Answers.{stepTold, WritePromise};
-ghost use Rattle.frame.specs.Outer.{writeOf, writeDatagramOf};
+ghost use Rattle.framing.specs.Outer.{writeOf, writeDatagramOf};
 use crate::Confidentiality;
-use crate::Integrity;
 use crate::PayloadType;
 use crate::Step;
 use crate::SubState;
@@ -21,7 +20,7 @@ use crate::crypto;
 use refusal::Refusal;
 
 // The least count of pad bytes for whole blocks.
-fn least_p(n: usize) -> usize
+fn choose_p(n: usize) -> usize
     requires { ⌜ n ≤ 65535 ⌝ }
     ensures { λ r. ⌜ r ≡ leastP n ⌝ }
 {
@@ -29,48 +28,47 @@ fn least_p(n: usize) -> usize
 }
 
 // The least count of pad bytes for a multiple of 4.
-fn least_q(n: usize) -> usize
+fn choose_q(n: usize) -> usize
     requires { ⌜ n ≤ 131072 ⌝ }
     ensures { λ r. ⌜ r ≡ leastQ n ⌝ }
 {
     (4 - (n + 2) % 4) % 4
 }
 
-fn body_size(c: Confidentiality, n: usize) -> usize
+fn measure_body(c: Confidentiality, n: usize) -> usize
     requires { ⌜ n ≤ 65535 ⌝ }
     ensures { λ r. ⌜ r ≡ bodySize (encrypts c) n ⌝ }
 {
-    match c {
-        Confidentiality::None => n,
-        Confidentiality::AesCbc128 => 16 + n + least_p(n) + 1,
+    if crate::encrypts(c) {
+        16 + n + choose_p(n) + 1
+    } else {
+        n
     }
 }
 
-fn packet_size(s: SubState, n: usize) -> usize
+fn measure_packet(s: SubState, n: usize) -> usize
     requires { ⌜ n ≤ 65535 ⌝ }
     ensures { λ r. ⌜ r ≡ packetSize (suiteOf s) n ⌝ }
 {
     let c = s.confidentiality;
     let i = s.integrity;
-    let k = 12 + body_size(c, n);
-    match i {
-        Integrity::None => k,
-        Integrity::HmacSha1_96 => k + (least_q(k) + 2 + crate::code_len(i)),
+    let k = 12 + measure_body(c, n);
+    if crate::carries_code(i) {
+        k + (choose_q(k) + 2 + crate::code_len(i))
+    } else {
+        k
     }
 }
 
 // The longest payload that a body can carry.
-fn longest(c: Confidentiality) -> usize
+fn find_longest_payload(c: Confidentiality) -> usize
     ensures { λ r. ⌜ r ≡ longestPayload (encrypts c) ⌝ }
 {
-    match c {
-        Confidentiality::None => 65535,
-        Confidentiality::AesCbc128 => 65503,
-    }
+    if crate::encrypts(c) { 65503 } else { 65535 }
 }
 
 // The writer's refusals, for a payload of n bytes behind `before` others.
-fn room_for(s: SubState, n: usize, before: usize, room: usize) -> Step
+fn check_room(s: SubState, n: usize, before: usize, room: usize) -> Step
     requires { ⌜ before ≤ 4 ⌝ }
     ensures { λ r. ⌜ stepTold r ≡ roomOf (suiteOf s) before n room ⌝ }
 {
@@ -78,10 +76,10 @@ fn room_for(s: SubState, n: usize, before: usize, room: usize) -> Step
         return Step::Stop(Refusal::PayloadTooLong);
     }
     let c = s.confidentiality;
-    if longest(c) < n {
+    if find_longest_payload(c) < n {
         return Step::Stop(Refusal::EncryptedPayloadTooLong);
     }
-    let size = before + packet_size(s, n);
+    let size = before + measure_packet(s, n);
     if room < size {
         return Step::Stop(Refusal::OutputTooShort);
     }
@@ -89,13 +87,15 @@ fn room_for(s: SubState, n: usize, before: usize, room: usize) -> Step
 }
 
 // The twelve bytes before a body of n bytes.
-fn header(s: SubState, ty: PayloadType, id: u32, seq: u32, n: usize) -> [u8; 12]
+fn make_header(s: SubState, ty: PayloadType, id: u32, seq: u32, n: usize) -> [u8; 12]
     requires { ⌜ n ≤ 65535 ⌝ }
     ensures { λ r. ⌜ r ≡ headerOf (suiteOf s) (record { ty = typeNumber ty; id = id; seq = seq; payload = [] }) n ⌝ }
 {
     let c = s.confidentiality;
     let i = s.integrity;
-    let flags = 128 * crate::aes_bit(c) + 64 * crate::code_bit(i) + ty.number();
+    let flags = 128 * crate::make_bit(crate::encrypts(c))
+        + 64 * crate::make_bit(crate::carries_code(i))
+        + ty.number();
     [
         0x06,
         flags,
@@ -124,7 +124,7 @@ fn put_pad(out: &mut [u8], at: usize, p: usize)
 }
 
 // The integrity pad of q bytes FF, its count and the next header.
-fn put_next(out: &mut [u8], at: usize, q: usize)
+fn put_trailer(out: &mut [u8], at: usize, q: usize)
     requires { ⌜ (q < 4) × (at + q + 2 ≤ length (now out)) ⌝ }
     ensures { λ _. ⌜ now (out .exit) ≡ pasted (now (out .entry)) at (replicate q 0xFF ++ (q ∷ 0x07 ∷ [])) ⌝ }
 {
@@ -136,12 +136,13 @@ fn put_next(out: &mut [u8], at: usize, q: usize)
 }
 
 // An encrypted body at its place: the IV, then payload, pad and count, encrypted where they stand.
-fn write_aes(s: SubState, payload: &[u8], iv: [u8; 16], out: &mut [u8])
+fn write_encrypted(s: SubState, payload: &[u8], iv: [u8; 16], out: &mut [u8])
     requires { ⌜ (length (now payload) ≤ 65535) × (12 + bodySize true (length (now payload)) ≤ length (now out)) ⌝ }
-    ensures { λ _. ⌜ now (out .exit) ≡ pasted (now (out .entry)) 12 (iv ++ suiteOf s .enc iv (plainOf (now (payload .entry)) (leastP (length (now (payload .entry)))))) ⌝ }
+    ensures { λ _. ⌜ now (out .exit) ≡ pasted (now (out .entry)) 12
+        (iv ++ suiteOf s .enc iv (plainOf (now (payload .entry)) (leastP (length (now (payload .entry)))))) ⌝ }
 {
     let n = payload.len();
-    let p = least_p(n);
+    let p = choose_p(n);
     octets::put(out, 12, &iv);
     octets::put(out, 28, payload);
     put_pad(out, 28 + n, p);
@@ -157,25 +158,22 @@ fn write_body(s: SubState, payload: &[u8], iv: [u8; 16], out: &mut [u8])
     ensures { λ _. ⌜ now (out .exit) ≡ pasted (now (out .entry)) 12 (ourBody (suiteOf s) (now (payload .entry)) iv) ⌝ }
 {
     let c = s.confidentiality;
-    match c {
-        Confidentiality::None => {
-            octets::put(out, 12, payload);
-        }
-        Confidentiality::AesCbc128 => write_aes(s, payload, iv, out),
+    if crate::encrypts(c) {
+        write_encrypted(s, payload, iv, out);
+    } else {
+        octets::put(out, 12, payload);
     }
 }
 
 // The trailer behind k bytes: pad, count, next header, and the code of everything up to there.
 fn write_code(s: SubState, k: usize, out: &mut [u8])
-    requires { ⌜ (k ≤ 65580) × (k + leastQ k + 2 + suiteOf s .m ≤ length (now out)) ⌝ }
+    requires { ⌜ (k ≤ 65547) × (k + leastQ k + 2 + suiteOf s .m ≤ length (now out)) ⌝ }
     ensures { λ _. ⌜ now (out .exit) ≡ pasted (now (out .entry)) k (ourPads k ++ suiteOf s .mac (take k (now (out .entry)) ++ ourPads k)) ⌝ }
 {
-    let q = least_q(k);
-    put_next(out, k, q);
+    let q = choose_q(k);
+    put_trailer(out, k, q);
     let n = k + q + 2;
-    let keys = s.keys;
-    let key = keys.k1;
-    let c = crypto::code_of(key, &out[..n]);
+    let c = crypto::make_code(s, &out[..n]);
     let i = s.integrity;
     let m = crate::code_len(i);
     let code = c.code;
@@ -193,17 +191,17 @@ fn write_packet(
     out: &mut [u8],
 )
     requires { ⌜ (length (now payload) ≤ longestPayload (suiteOf s .aes)) × (packetSize (suiteOf s) (length (now payload)) ≤ length (now out)) ⌝ }
-    ensures { λ _. ⌜ now (out .exit) ≡ begun (ours (suiteOf s) (record { ty = typeNumber ty; id = id; seq = seq; payload = now (payload .entry) }) iv) (now (out .entry)) ⌝ }
+    ensures { λ _. ⌜ now (out .exit) ≡ begun (ours (suiteOf s) (record { ty = typeNumber ty; id = id; seq = seq; payload = now (payload .entry) }) iv)
+        (now (out .entry)) ⌝ }
 {
     let c = s.confidentiality;
-    let n = body_size(c, payload.len());
-    let h = header(s, ty, id, seq, n);
+    let n = measure_body(c, payload.len());
+    let h = make_header(s, ty, id, seq, n);
     octets::put(out, 0, &h);
     write_body(s, payload, iv, out);
     let i = s.integrity;
-    match i {
-        Integrity::None => {}
-        Integrity::HmacSha1_96 => write_code(s, 12 + n, out),
+    if crate::carries_code(i) {
+        write_code(s, 12 + n, out);
     }
 }
 
@@ -217,9 +215,10 @@ pub fn write_payload(
     iv: [u8; 16],
     out: &mut [u8],
 ) -> Written
-    ensures { λ r. ⌜ WritePromise (writeOf (suiteOf s) (record { ty = typeNumber ty; id = id; seq = seq; payload = now (payload .entry) }) iv (length (now (out .entry)))) (now (out .entry)) r (now (out .exit)) ⌝ }
+    ensures { λ r. ⌜ WritePromise (writeOf (suiteOf s) (record { ty = typeNumber ty; id = id; seq = seq; payload = now (payload .entry) }) iv
+        (length (now (out .entry)))) (now (out .entry)) r (now (out .exit)) ⌝ }
 {
-    let t = room_for(s, payload.len(), 0, out.len());
+    let t = check_room(s, payload.len(), 0, out.len());
     match t {
         Step::Stop(r) => Written::Refused(r),
         Step::Go(n) => {
@@ -239,9 +238,10 @@ pub fn write_datagram(
     iv: [u8; 16],
     out: &mut [u8],
 ) -> Written
-    ensures { λ r. ⌜ WritePromise (writeDatagramOf (suiteOf s) (record { ty = typeNumber ty; id = id; seq = seq; payload = now (payload .entry) }) iv (length (now (out .entry)))) (now (out .entry)) r (now (out .exit)) ⌝ }
+    ensures { λ r. ⌜ WritePromise (writeDatagramOf (suiteOf s) (record { ty = typeNumber ty; id = id; seq = seq; payload = now (payload .entry) }) iv
+        (length (now (out .entry)))) (now (out .entry)) r (now (out .exit)) ⌝ }
 {
-    let t = room_for(s, payload.len(), 4, out.len());
+    let t = check_room(s, payload.len(), 4, out.len());
     match t {
         Step::Stop(r) => Written::Refused(r),
         Step::Go(n) => {

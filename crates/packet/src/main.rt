@@ -8,7 +8,7 @@ use text::Cursor;
 const ROOM: usize = report::LONGEST + 1;
 
 // The first `n` bytes of the line, where there are as many.
-fn printed(line: &[u8], n: usize) {
+fn print_first(line: &[u8], n: usize) {
     if n <= line.len() {
         io::write_all(STDOUT_FILENO, &line[0..n]);
     }
@@ -20,6 +20,6 @@ fn main() {
     let n = io::read_full(STDIN_FILENO, &mut packet);
     let mut line = [0u8; 64];
     let start = Cursor { at: 0, full: false };
-    let c = report::tell(&mut packet[..n], &mut line, start);
-    printed(&line, c.at);
+    let c = report::tell(&packet[..n], &mut line, start);
+    print_first(&line, c.at);
 }

@@ -8,19 +8,20 @@ use borrow.Author.Tests.{le-leb, lt-leb, lt-ltb, le-ltb}
 use Rattle.refusal.specs.Order.{refuse, need, andThen}
 use Rattle.refusal.proofs.Order.{pass, need-no}
 use Rattle.frame.specs.Session.{suiteOf}
-use Rattle.frame.specs.Types.{known}
-use Rattle.frame.specs.Read.{readOf, headOf, restOf, payloadBehind, beforeTrailer, bodyIn, payloadIn, leftOf}
-use Rattle.frame.specs.Answers.{shown, readTold, ReadPromise}
+use Rattle.framing.specs.Known.{known}
+use Rattle.framing.specs.Read.{readOf, readWith, headOf, restOf, payloadBehind, beforeTrailer, bodyIn, payloadIn}
+use Rattle.framing.specs.Told.{shown}
+use Rattle.frame.specs.Answers.{readTold, Tells}
 use Rattle.frame.specs.declared.SubState.{SubState}
 use Rattle.frame.specs.declared.Read.{Read}
 use Rattle.text.specs.Line.{lineOf, packetLine}
 use Rattle.text.specs.Promise.{AddPromise}
 use Rattle.text.proofs.Writing.{add-of}
 use Rattle.text.specs.declared.write.Cursor.{Cursor}
-use Rattle.text.specs.declared.packet.Outcome.{Outcome}
-use Rattle.text.specs.declared.packet.Outcome.the-variants.{Packet, Refused}
-use Rattle.report.specs.Told.{longest, plain, Bare, found, lineFor, told, outcomeTold, Finds, TellPromise}
-use Rattle.report.proofs.Keyless.{any-keys, unchanged}
+use Rattle.text.specs.declared.packet.Telling.{Telling}
+use Rattle.text.specs.declared.packet.Telling.the-variants.{Packet, Refused}
+use Rattle.report.specs.Told.{longest, plain, Bare, found, lineFor, told, numbersTold}
+use Rattle.report.proofs.Keyless.{any-keys}
 
 module _ (l : List ℕ) where
   -- no byte
@@ -31,7 +32,9 @@ module _ (l : List ℕ) where
   -- too many
   pub long : longest < length l → refuse 15 0 ≡ found l
   unfolding found
-  long h = let g : 0 < length l = omega arith in sym (pass _ _ _ _ (lt-ltb 0 (length l) g) (need-no _ _ _ _ (lt-leb (length l) longest h)))
+  long h =
+      let g : 0 < length l = omega arith in
+      sym (pass _ _ _ _ (lt-ltb 0 (length l) g) (need-no _ _ _ _ (lt-leb (length l) longest h)))
 
   -- any other number: what the reader finds
   pub within : 0 < length l → length l ≤ longest → shown (readOf plain l) ≡ found l
@@ -39,24 +42,25 @@ module _ (l : List ℕ) where
   within g h = sym (pass _ _ _ _ (lt-ltb 0 (length l) g) (pass _ _ _ _ (le-leb (length l) longest h) refl))
 
 -- a packet that was read
-module _ (l : List ℕ) (s : SubState) (n : ℕ) (r : Read) (exit : List ℕ) (o : Outcome) where
-  pub finds : 0 < length l → length l ≤ longest → Bare s → ReadPromise (readOf (suiteOf s) l) n (leftOf (suiteOf s) l) r exit → outcomeTold o ≡ readTold (r .answer) → Finds l o exit
-  finds g h b p e =
-      record {
-        answer = e ∙ p .tells .answer ∙ ap shown (any-keys s b l) ∙ within l g h;
-        packet = p .buffer ∙ unchanged s b l;
-      }
+pub finds : (l : List ℕ) (s : SubState) (n : ℕ) (r : Read) (t : Telling)
+    → 0 < length l → length l ≤ longest → Bare s → Tells (readOf (suiteOf s) l) n r → numbersTold t ≡ readTold (r .answer)
+    → numbersTold t ≡ found l
+finds l s n r t g h b p e = e ∙ p .answer ∙ ap shown (any-keys s b l) ∙ within l g h
 
--- an outcome's line is the line of its numbers
-line-told : (o : Outcome) → lineOf o ≡ lineFor (outcomeTold o)
+-- a telling's line is the line of its numbers
+line-told : (t : Telling) → lineOf t ≡ lineFor (numbersTold t)
 line-told (Packet kind id seq len) = refl
 line-told (Refused r) = refl
 
-pub tells : (l d : List ℕ) (c r : Cursor) (o : Outcome) (left exit : List ℕ) → Finds l o left → AddPromise d c (lineOf o) r exit → TellPromise l d c r left exit
+-- the line of what was found is the line of the packet
+pub tells : (l d : List ℕ) (c r : Cursor) (t : Telling) (exit : List ℕ)
+    → numbersTold t ≡ found l → AddPromise d c (lineOf t) r exit → AddPromise d c (told l) r exit
 unfolding told
-tells l d c r o left exit p q = record { line = add-of d c (lineOf o) (told l) r exit (line-told o ∙ ap lineFor (p .answer)) q; packet = p .packet }
+tells l d c r t exit e p = add-of d c (lineOf t) (told l) r exit (line-told t ∙ ap lineFor e) p
 
 -- the packet that rule 8.1 shows; text's `first-line` has the characters of its line
-pub first-packet : told (0x06 ∷ 0x00 ∷ 0x0D ∷ 0x0C ∷ 0x0B ∷ 0x0A ∷ 0x01 ∷ 0x00 ∷ 0x00 ∷ 0x00 ∷ 0x02 ∷ 0x00 ∷ 0xAA ∷ 0xBB ∷ []) ≡ packetLine 0 0x0a0b0c0d 1 2
-unfolding told found need andThen shown readOf headOf restOf payloadBehind beforeTrailer bodyIn payloadIn known
+pub first-packet :
+    told (0x06 ∷ 0x00 ∷ 0x0D ∷ 0x0C ∷ 0x0B ∷ 0x0A ∷ 0x01 ∷ 0x00 ∷ 0x00 ∷ 0x00 ∷ 0x02 ∷ 0x00 ∷ 0xAA ∷ 0xBB ∷ [])
+    ≡ packetLine 0 0x0a0b0c0d 1 2
+unfolding told found need andThen shown readOf readWith headOf restOf payloadBehind beforeTrailer bodyIn payloadIn known
 first-packet = refl

@@ -8,17 +8,15 @@ use lib.ListN.{length}
 use Rattle.refusal.specs.Table.{numberOf, valueOf}
 use Rattle.refusal.specs.Order.{Res, refuse, accept, need}
 use Rattle.frame.specs.Types.{codeLength}
-use Rattle.frame.specs.Suite.{Suite}
-use Rattle.frame.specs.Read.{readOf}
-use Rattle.frame.specs.Answers.{Shown, shown}
+use Rattle.framing.specs.Suite.{Suite}
+use Rattle.framing.specs.Read.{readOf}
+use Rattle.framing.specs.Told.{Shown, shown}
 use Rattle.frame.specs.declared.Confidentiality as C
 use Rattle.frame.specs.declared.Integrity as I
 use Rattle.frame.specs.declared.SubState.{SubState}
 use Rattle.text.specs.Line.{packetLine, refusedLine}
-use Rattle.text.specs.Promise.{AddPromise}
-use Rattle.text.specs.declared.write.Cursor.{Cursor}
-use Rattle.text.specs.declared.packet.Outcome.{Outcome}
-use Rattle.text.specs.declared.packet.Outcome.the-variants.{Packet, Refused}
+use Rattle.text.specs.declared.packet.Telling.{Telling}
+use Rattle.text.specs.declared.packet.Telling.the-variants.{Packet, Refused}
 
 -- the longest packet that is read
 abbrev pub longest : ℕ
@@ -50,17 +48,7 @@ lineFor (accept M) = packetLine (M .ty) (M .id) (M .seq) (M .len)
 unfoldable pub told : List ℕ → List ℕ
 told l = lineFor (found l)
 
--- an outcome by its numbers
-abbrev pub outcomeTold : Outcome → Res Shown
-outcomeTold (Packet kind id seq len) = accept (record { ty = kind; id = id; seq = seq; len = len })
-outcomeTold (Refused r) = refuse (numberOf r) (valueOf r)
-
--- the packet l was read: what was found, and that no byte of it changed
-pub record Finds (l : List ℕ) (o : Outcome) (left : List ℕ) : Type 0 where
-  pub answer : outcomeTold o ≡ found l
-  pub packet : left ≡ l
-
--- the line of the packet l was to be added to d at the cursor c
-pub record TellPromise (l d : List ℕ) (c r : Cursor) (left exit : List ℕ) : Type 0 where
-  pub line : AddPromise d c (told l) r exit
-  pub packet : left ≡ l
+-- a telling by its numbers
+abbrev pub numbersTold : Telling → Res Shown
+numbersTold (Packet kind id seq len) = accept (record { ty = kind; id = id; seq = seq; len = len })
+numbersTold (Refused r) = refuse (numberOf r) (valueOf r)

@@ -1,7 +1,8 @@
 // What became of one packet, as a line: the small program's work, which the program only feeds and prints.
 ghost use mathlib.Core.Path.{_≡_};
 ghost use Rattle.frame.specs.Answers.{readTold};
-ghost use Rattle.report.specs.Told.{Bare, outcomeTold, Finds, TellPromise};
+ghost use Rattle.text.specs.Promise.{AddPromise};
+ghost use Rattle.report.specs.Told.{Bare, numbersTold, found, told};
 use frame::Confidentiality;
 use frame::Integrity;
 use frame::Reading;
@@ -9,14 +10,14 @@ use frame::SubState;
 use keys::Keys;
 use refusal::Refusal;
 use text::Cursor;
-use text::Outcome;
+use text::Telling;
 
 // The longest packet that is read.
 pub const LONGEST: usize = 4096;
 
 // A reading as a line has it.
-fn outcome_of(a: Reading) -> Outcome
-    ensures { λ r. ⌜ outcomeTold r ≡ readTold a ⌝ }
+fn make_telling(a: Reading) -> Telling
+    ensures { λ r. ⌜ numbersTold r ≡ readTold a ⌝ }
 {
     match a {
         Reading::Accepted {
@@ -24,18 +25,18 @@ fn outcome_of(a: Reading) -> Outcome
             session_id,
             session_sequence_number,
             len,
-        } => Outcome::Packet {
+        } => Telling::Packet {
             kind: ty.number(),
             id: session_id,
             seq: session_sequence_number,
             len,
         },
-        Reading::Refused(r) => Outcome::Refused(r),
+        Reading::Refused(r) => Telling::Refused(r),
     }
 }
 
 // A session with neither algorithm, whose keys nothing looks at.
-fn bare() -> SubState
+fn make_session() -> SubState
     ensures { λ r. ⌜ Bare r ⌝ }
 {
     SubState {
@@ -49,25 +50,25 @@ fn bare() -> SubState
     }
 }
 
-// What becomes of a packet. It is lent to be changed since the reader asks for that, and does not change.
-fn read(packet: &mut [u8]) -> Outcome
-    ensures { λ r. ⌜ Finds (now (packet .entry)) r (now (packet .exit)) ⌝ }
+// What becomes of a packet.
+fn read_packet(packet: &[u8]) -> Telling
+    ensures { λ r. ⌜ numbersTold r ≡ found (now (packet .entry)) ⌝ }
 {
     if packet.len() == 0 {
-        return Outcome::Refused(Refusal::NotEnoughData);
+        return Telling::Refused(Refusal::NotEnoughData);
     }
     if packet.len() > LONGEST {
-        return Outcome::Refused(Refusal::OutputTooShort);
+        return Telling::Refused(Refusal::OutputTooShort);
     }
-    let r = frame::read_payload(bare(), packet);
+    let r = frame::read_checked(make_session(), packet);
     let a = r.answer;
-    outcome_of(a)
+    make_telling(a)
 }
 
 // Adds the line that tells what becomes of the packet.
-pub fn tell(packet: &mut [u8], out: &mut [u8], c: Cursor) -> Cursor
-    ensures { λ r. ⌜ TellPromise (now (packet .entry)) (now (out .entry)) c r (now (packet .exit)) (now (out .exit)) ⌝ }
+pub fn tell(packet: &[u8], out: &mut [u8], c: Cursor) -> Cursor
+    ensures { λ r. ⌜ AddPromise (now (out .entry)) c (told (now (packet .entry))) r (now (out .exit)) ⌝ }
 {
-    let o = read(packet);
-    text::packet_line(out, c, o)
+    let t = read_packet(packet);
+    text::packet_line(out, c, t)
 }

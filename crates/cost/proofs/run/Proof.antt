@@ -6,8 +6,8 @@ use borrow.Author.Needs.{needs}
 use Rattle.cost.proofs.run.Statement.{statement}
 use Rattle.cost.proofs.run.Tie as tie
 
-slice-aggregate-turned : tie.Need-slice-aggregate-turned
-slice-aggregate-turned c = sym (length-take-le _ _ (omega arith))
+slice-aggregate-run-letter : tie.Need-slice-aggregate-run-letter
+slice-aggregate-run-letter c = sym (length-take-le _ _ (omega arith))
 
 pub run-spec : {M : Type 1} → statement M
 run-spec =
@@ -19,7 +19,7 @@ run-spec =
     (λ c. search needs)
     (λ c. search needs)
     (λ c. search needs)
-    slice-aggregate-turned
+    slice-aggregate-run-letter
     (λ c. search needs)
     (λ c κs. search needs)
     (λ c. search needs))

@@ -5,8 +5,9 @@ use Rattle.report.proofs.tell.Statement.{statement}
 use Rattle.report.proofs.tell.Tie as tie
 
 returns : tie.Need-returns
-returns c = tells _ _ _ _ _ _ _ (c .before .before .before .before .before .before .read .ensures) (c .before .before .packet-line .ensures)
+returns c =
+    let read = c .before .before .before .before .read-packet in
+    tells _ _ _ _ (read .result) _ (read .ensures) (c .before .before .packet-line .ensures)
 
 pub tell-spec : {M : Type 1} → statement M
-tell-spec =
-    tie.close (tie.spec (λ c κs. search needs) (λ c κs. search needs) (λ c. search needs) (λ c. search needs) returns)
+tell-spec = tie.close (tie.spec (λ c κs. search needs) (λ c κs. search needs) (λ c. search needs) returns)

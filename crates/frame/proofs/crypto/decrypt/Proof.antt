@@ -5,7 +5,9 @@ use Rattle.frame.proofs.crypto.decrypt.Statement.{statement}
 use Rattle.frame.proofs.crypto.decrypt.Tie as tie
 
 returns : tie.Need-returns
-returns c = cbc-done _ _ _ _ (c .before .before .before .before .before .pre) (c .before .before .cbc-decrypt .ensures)
+returns c =
+    let c5 = c .before .before .before .before .before in
+    cbc-done _ _ _ _ (c5 .pre) (c .before .before .cbc-decrypt .ensures)
 
 pub decrypt-spec : {M : Type 1} → statement M
 decrypt-spec = tie.close (tie.spec (λ c κs. search needs) (λ c. search needs) returns)

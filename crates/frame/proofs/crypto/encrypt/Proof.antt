@@ -5,7 +5,9 @@ use Rattle.frame.proofs.crypto.encrypt.Statement.{statement}
 use Rattle.frame.proofs.crypto.encrypt.Tie as tie
 
 returns : tie.Need-returns
-returns c = cbc-done _ _ _ _ (c .before .before .before .before .before .pre) (c .before .before .cbc-encrypt .ensures)
+returns c =
+    let c5 = c .before .before .before .before .before in
+    cbc-done _ _ _ _ (c5 .pre) (c .before .before .cbc-encrypt .ensures)
 
 pub encrypt-spec : {M : Type 1} → statement M
 encrypt-spec = tie.close (tie.spec (λ c κs. search needs) (λ c. search needs) returns)

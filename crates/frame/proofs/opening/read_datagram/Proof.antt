@@ -1,39 +1,46 @@
 -- `read_datagram` keeps its promise: behind the outer bytes the packet's own order.
 use native.Mathlib.Omega.{arith}
-use mathlib.Core.Path.{refl, sym, _∙_}
-use lib.Seq.{length-take-le}
-use borrow.Author.Tests.{not-true, not-false}
-use Rattle.frame.proofs.InPlace.{outer-1, outer-16, outer-on}
+use mathlib.Core.Path.{refl, ap, sym, _∙_}
+use Rattle.refusal.specs.Outcome.{told}
+use Rattle.framing.proofs.Outer.{outer-inv}
+use Rattle.framing.proofs.InPlace.{outer-no, outer-on}
+use Rattle.frame.proofs.Promised.{reads}
 use borrow.Author.Needs.{needs}
 use Rattle.frame.proofs.opening.read_datagram.Statement.{statement}
 use Rattle.frame.proofs.opening.read_datagram.Tie as tie
 
-returns : tie.Need-returns
-returns c = outer-1 _ _ _ (omega arith) refl refl
+sub-read-payload : tie.Need-sub-read-payload
+sub-read-payload c =
+    let c5 = c .before .before .before .before .before in
+    omega (arith, outer-inv (c5 .args .datagram .now) _ (sym (c .before .before .check-outer .ensures) ∙ ap told (c .enum-told .given .1)) .0)
 
-slice-aggregate-same : tie.Need-slice-aggregate-same
-slice-aggregate-same c = sym (length-take-le 4 (c .before .before .before .args .datagram .now) (omega arith))
+part-read-payload-start : tie.Need-part-read-payload-start
+part-read-payload-start c = sub-read-payload c
+
+returns : tie.Need-returns
+returns c = reads _ _ _ _ _ (outer-no _ _ _ (c .before .before .before .check-outer .ensures) _ _ (ap told (c .before .o .given .1)))
 
 returns-2 : tie.Need-returns-2
-returns-2 c = outer-16 _ _ _ (omega arith) (sym (c .before .same .ensures) ∙ not-true _ (c .if2 .taken)) refl refl
-
-returns-3 : tie.Need-returns-3
-returns-3 c = outer-on _ _ _ _ (omega arith) (sym (c .before .before .before .before .before .same .ensures) ∙ not-false _ (c .before .before .before .before .if2 .left)) (c .before .before .read-payload .ensures)
+returns-2 c =
+    let c4 = c .before .before .before .before in
+    let c6 = c4 .before .before in
+    let r = c .before .before .read-payload .ensures in
+    reads _ _ _ _ _
+    (outer-on _ _ _ (c6 .check-outer .ensures) _ _ _ _ _ (ap told (c4 .enum-told .given .1)) refl
+    (r .tells .answer) (r .tells .count) (r .buffer))
 
 pub read-datagram-spec : {M : Type 1} → statement M
 read-datagram-spec =
     tie.close
     (tie.spec
+    (λ c κs. search needs)
+    (λ c. search needs)
+    (λ c. search needs)
+    sub-read-payload
+    part-read-payload-start
+    (λ c. search needs)
+    (λ c κs. search needs)
+    (λ c. search needs)
     returns
     (λ c. search needs)
-    slice-aggregate-same
-    (λ c. search needs)
-    (λ c κs. search needs)
-    (λ c. search needs)
-    returns-2
-    (λ c. search needs)
-    (λ c. search needs)
-    (λ c. search needs)
-    (λ c κs. search needs)
-    (λ c. search needs)
-    returns-3)
+    returns-2)

@@ -2,7 +2,7 @@
 use native.Mathlib.Omega.{arith}
 use mathlib.Core.Path.{sym}
 use lib.Seq.{length-take-le}
-use Rattle.frame.proofs.Fills.{pad-long, pad-put}
+use Rattle.framing.proofs.Fills.{pad-long, pad-put}
 use borrow.Author.Needs.{needs}
 use Rattle.frame.proofs.writer.put_pad.Statement.{statement}
 use Rattle.frame.proofs.writer.put_pad.Tie as tie
@@ -14,7 +14,9 @@ slice-aggregate-put : tie.Need-slice-aggregate-put
 slice-aggregate-put c = sym (length-take-le _ _ (omega (arith, pad-long (c .before .before .before .args .p), c .before .before .before .pre .0)))
 
 returns : tie.Need-returns
-returns c = pad-put _ _ _ _ _ (c .before .before .before .before .before .before .pre .0) (c .before .before .before .before .before .before .pre .1) (c .before .before .put .ensures)
+returns c =
+    let c6 = c .before .before .before .before .before .before in
+    pad-put _ _ _ _ _ (c6 .pre .0) (c6 .pre .1) (c .before .before .put .ensures)
 
 pub put-pad-spec : {M : Type 1} → statement M
 put-pad-spec =

@@ -3,30 +3,51 @@ use native.Mathlib.Omega.{arith}
 use mathlib.Core.Path.{_≡_, sym}
 use lib.ListN.{length}
 use lib.Seq.{length-take-le}
-use Rattle.sha1.specs.Hash.{hmacSha1}
-use Rattle.frame.proofs.Head.{code-short}
-use Rattle.frame.proofs.Writes.{code-written}
+use Rattle.framing.proofs.Writes.{code-written}
+use Rattle.frame.specs.Session.{suiteOf}
+use Rattle.frame.proofs.Suites.{longestCode, code-short}
 use borrow.Author.Needs.{needs}
 use Rattle.frame.proofs.writer.write_code.Statement.{statement}
 use Rattle.frame.proofs.writer.write_code.Tie as tie
 
-slice-aggregate-code-of : tie.Need-slice-aggregate-code-of
-slice-aggregate-code-of c = sym (length-take-le _ (c .before .before .before .before .before .put-next .last .0) (omega (arith, c .before .before .before .before .before .put-next .kept .0, c .before .before .before .before .before .before .before .least-q .ensures, c .before .before .before .before .before .before .before .before .before .pre .1)))
+slice-aggregate-make-code : tie.Need-slice-aggregate-make-code
+slice-aggregate-make-code c =
+    let c5 = c .before .before .before .before .before in
+    let c7 = c5 .before .before in
+    sym (length-take-le _ (c .before .before .before .put-trailer .last .0)
+    (omega (arith, c .before .before .before .put-trailer .kept .0, c5 .choose-q .ensures, c7 .pre .1)))
 
-code-of-requires : tie.Need-code-of-requires
-code-of-requires c κs = omega (arith, slice-aggregate-code-of c, c .before .before .before .before .before .before .before .least-q .ensures, c .before .before .before .before .before .before .before .before .before .pre .0)
+make-code-requires : tie.Need-make-code-requires
+make-code-requires c κs =
+    let c5 = c .before .before .before .before .before in
+    let c7 = c5 .before .before in
+    omega (arith, slice-aggregate-make-code c, c5 .choose-q .ensures, c7 .pre .0)
 
 array-share-prefix-code : tie.Need-array-share-prefix-code
-array-share-prefix-code c = let n : length (c .before .before .before .code-of .result .code) ≡ 20 = search needs in omega (arith, c .before .before .code-len .ensures, code-short (c .before .before .before .before .before .before .before .before .before .before .before .before .before .args .s .integrity))
+array-share-prefix-code c =
+    let c11 = c .before .before .before .before .before .before .before .before .before .before .before in
+    let n : length (c .before .before .before .make-code .result .code) ≡ longestCode = search needs in
+    omega (arith, c .before .before .code-len .ensures, code-short (c11 .args .s .integrity))
 
 slice-aggregate-put : tie.Need-slice-aggregate-put
-slice-aggregate-put c = let n : length (c .before .before .before .before .code-of .result .code) ≡ 20 = search needs in sym (length-take-le _ _ (omega (arith, c .before .before .before .code-len .ensures, code-short (c .before .before .before .before .before .before .before .before .before .before .before .before .before .before .args .s .integrity))))
+slice-aggregate-put c =
+    let c4 = c .before .before .before .before in
+    let c12 = c4 .before .before .before .before .before .before .before .before in
+    let n : length (c4 .make-code .result .code) ≡ longestCode = search needs in
+    sym (length-take-le _ _ (omega (arith, c .before .before .before .code-len .ensures, code-short (c12 .args .s .integrity))))
 
 returns : tie.Need-returns
-returns c = let a = c .before .before .before .before .before .before .before .before .before .before .before .before .before .before .before .before .before .args in
-    let n : length (c .before .before .before .before .before .before .before .code-of .result .code) ≡ 20 = search needs in
-    code-written (hmacSha1 (a .s .keys .k1)) (a .out .now) _ _ _ (a .k) _ _ _ _ (c .before .before .before .before .before .before .before .before .before .before .before .before .before .before .before .least-q .ensures) (c .before .before .before .before .before .before .code-len .ensures)
-    (omega (arith, c .before .before .before .before .before .before .before .before .before .before .before .before .before .before .before .least-q .ensures, c .before .before .before .before .before .before .code-len .ensures, c .before .before .before .before .before .before .before .before .before .before .before .before .before .before .before .before .before .pre .1)) (omega (arith, c .before .before .before .before .before .before .code-len .ensures, code-short (a .s .integrity))) (c .before .before .before .before .before .before .before .before .before .before .before .before .before .put-next .ensures) (c .before .before .before .before .before .before .before .code-of .ensures .0) (c .before .before .put .ensures)
+returns c =
+    let c6 = c .before .before .before .before .before .before in
+    let c7 = c6 .before in
+    let c11 = c7 .before .before .before .before in
+    let c13 = c11 .before .before in
+    let c15 = c13 .before .before in
+    let a = c15 .args in
+    let q = c13 .choose-q .ensures in
+    let m = c6 .code-len .ensures in
+    code-written (suiteOf (a .s)) (a .out .now) _ _ _ (a .k) _ _ _ q m (omega (arith, q, m, c15 .pre .1))
+    (array-share-prefix-code (c .before .before .before .before)) (c11 .put-trailer .ensures) (c7 .make-code .ensures .0) (c .before .before .put .ensures)
 
 pub write-code-spec : {M : Type 1} → statement M
 write-code-spec =
@@ -37,8 +58,8 @@ write-code-spec =
     (λ c. search needs)
     (λ c. search needs)
     (λ c. search needs)
-    slice-aggregate-code-of
-    code-of-requires
+    slice-aggregate-make-code
+    make-code-requires
     (λ c κs. search needs)
     array-share-prefix-code
     slice-aggregate-put

@@ -1,0 +1,9 @@
+pub mod Known
+pub mod Suite
+pub mod Packet
+pub mod Read
+pub mod Write
+pub mod Told
+pub mod Payload
+pub mod Outer
+pub mod Marked

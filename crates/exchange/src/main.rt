@@ -8,6 +8,7 @@ use frame::Written;
 use keys::Keys;
 use libc::STDOUT_FILENO;
 use messages::open_session::RequestedPrivilege;
+use session::Asked;
 use session::Record;
 use text::Cursor;
 
@@ -199,48 +200,48 @@ const NAME: [u8; 16] = *b"nightdesk\x00\x00\x00\x00\x00\x00\x00";
 const NAME_LEN: usize = 9;
 
 // The first `n` bytes of what was written, where there are as many.
-fn printed(out: &[u8], n: usize) {
+fn print_first(out: &[u8], n: usize) {
     if n <= out.len() {
         io::write_all(STDOUT_FILENO, &out[..n]);
     }
 }
 
-fn line(label: &[u8], s: &[u8]) {
+fn print_line(label: &[u8], s: &[u8]) {
     let mut out = [0u8; 512];
     let start = Cursor { at: 0, full: false };
     let a = text::add(&mut out, start, label);
     let b = text::hex(&mut out, a, s);
     let c = text::add(&mut out, b, b"\n");
-    printed(&out, c.at);
+    print_first(&out, c.at);
 }
 
-fn shown(label: &[u8], n: usize, out: &[u8]) {
+// A line of the message of `n` bytes at the start of `out`, where there are as many.
+fn print_message(label: &[u8], n: usize, out: &[u8]) {
     if n <= out.len() {
-        line(label, &out[..n]);
+        print_line(label, &out[..n]);
     }
 }
 
 // The console's four steps.
-fn opened() -> Record {
+fn open_session() -> Record {
     let mut out = [0u8; 64];
     let kg = [0x77u8; 20];
-    let a = session::begin(
-        0x0aa2a3a4,
-        RequestedPrivilege::Level(4),
-        b"nightdesk",
-        &mut out,
-    );
-    shown(b"request ", a.len, &out);
+    let asked = Asked {
+        console: 0x0aa2a3a4,
+        level: RequestedPrivilege::Level(4),
+    };
+    let a = session::begin(asked, b"nightdesk", &mut out);
+    print_message(b"request ", a.len, &out);
     let b = session::open_response(a.state, &OPEN_RESPONSE, RM, &mut out);
-    shown(b"message 1 ", b.len, &out);
+    print_message(b"message 1 ", b.len, &out);
     let c = session::message_2(b.state, &kg, b"renderfarm", &MESSAGE_2, &mut out);
-    shown(b"message 3 ", c.len, &out);
+    print_message(b"message 3 ", c.len, &out);
     let d = session::message_4(c.state, &MESSAGE_4);
     d.state
 }
 
 // The system's session, from its own SIK.
-fn system() -> SubState {
+fn make_system_session() -> SubState {
     let kg = [0x77u8; 20];
     let h = keys::state::sik(&kg, b"renderfarm", RM, RC, 0x04, NAME, NAME_LEN);
     let digest = h.digest;
@@ -253,7 +254,7 @@ fn system() -> SubState {
 
 // What the system reads of a datagram.
 fn read_back(datagram: &mut [u8]) {
-    let r = frame::read_datagram(system(), datagram);
+    let r = frame::read_datagram(make_system_session(), datagram);
     let answer = r.answer;
     if let Reading::Accepted {
         ty: _,
@@ -262,18 +263,18 @@ fn read_back(datagram: &mut [u8]) {
         len,
     } = answer {
         if 4 <= datagram.len() {
-            line(b"read back ", frame::payload(&datagram[4..], true, len));
+            print_line(b"read back ", frame::payload(&datagram[4..], true, len));
         }
     }
 }
 
 fn main() {
-    let made = session::sub_state(opened());
+    let made = session::sub_state(open_session());
     let s = made.session;
     let k = s.keys;
     let k1 = k.k1;
-    line(b"k1 ", &k1);
-    line(b"aes ", &k.aes_key());
+    print_line(b"k1 ", &k1);
+    print_line(b"aes ", &k.aes_key());
     let mut out = [0u8; 64];
     let w = frame::write_datagram(
         s,
@@ -285,7 +286,7 @@ fn main() {
         &mut out,
     );
     if let Written::Length(n) = w {
-        shown(b"datagram ", n, &out);
+        print_message(b"datagram ", n, &out);
         if n == 64 {
             read_back(&mut out);
         }

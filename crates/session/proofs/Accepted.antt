@@ -11,20 +11,21 @@ use Rattle.refusal.proofs.Order.{accept-inj, need-inv, then-inv}
 use Rattle.octets.specs.Number.{unle}
 use Rattle.octets.specs.Place.{part}
 use Rattle.octets.proofs.Equal.{same-true}
-use Rattle.messages.specs.Name.{allowed, usernameOf}
+use Rattle.messages.specs.Name.{allowed, usernameOf, stored}
 use Rattle.messages.specs.OpenSession.{Response, openChecked, openNumbers, openFields, openResponse}
 use Rattle.messages.specs.Rakp.{fields4, message4}
-use Rattle.messages.specs.declared.«open_session».RequestedPrivilege.{RequestedPrivilege}
 use Rattle.messages.specs.declared.«rakp_2».RakpMessage2.{RakpMessage2}
 use Rattle.messages.specs.declared.«rakp_4».RakpMessage4.{RakpMessage4}
 use Rattle.session.specs.Record.{stepNumber, inStep, answered, keyed, opened}
-use Rattle.session.specs.Steps.{Made, readyBegin, madeBegin, beginOf, readyOpen, heardOpen, madeOpen, openOf, readyTwo, sikTwo, madeTwo, provedTwo, twoOf, readyFour, valueFour, heardFour, fourOf}
+use Rattle.session.specs.Steps.{Made, readyBegin, madeBegin, beginOf, readyOpen, heardOpen, madeOpen, openOf}
+use Rattle.session.specs.Steps.{readyTwo, sikTwo, madeTwo, provedTwo, twoOf, readyFour, valueFour, heardFour, fourOf}
+use Rattle.session.specs.declared.Asked.{Asked}
 use Rattle.session.specs.declared.Record.{Record}
 
-pub in-step : (s : Record) (k : ℕ) → inStep s k ≡ true → (stepNumber (s .step) ≡ k) × (s .username .len ≤ 16)
+pub in-step : (s : Record) (k : ℕ) → inStep s k ≡ true → (stepNumber (s .step) ≡ k) × (s .begun .username .len ≤ 16)
 unfolding inStep
 in-step s k e =
-    let a = and-eq-true-iff (eqb (stepNumber (s .step)) k) (leb (s .username .len) 16) .0 e in
+    let a = and-eq-true-iff (eqb (stepNumber (s .step)) k) (leb (s .begun .username .len) 16) .0 e in
     (eqb-true _ _ (a .0), leb-true _ _ (a .1))
 
 -- Begin
@@ -32,22 +33,22 @@ name-tells : (name n : List ℕ) → usernameOf name ≡ accept n → (allowed (
 unfolding usernameOf
 name-tells name n e = let a = need-inv _ _ _ _ e in (a .0, accept-inj _ _ (a .1))
 
-pub begin-tells : (own : ℕ) (level : RequestedPrivilege) (name : List ℕ) (room : ℕ) (M : Made)
-    → beginOf own level name room ≡ accept M
-    → (own ≡ 0 → ⊥)
+pub begin-tells : (asked : Asked) (name : List ℕ) (room : ℕ) (M : Made)
+    → beginOf asked name room ≡ accept M
+    → (asked .console ≡ 0 → ⊥)
     × (allowed (take 16 name) ≡ true)
-    × (M ≡ madeBegin own level (take 16 name))
+    × (M ≡ madeBegin asked (stored (take 16 name)))
 unfolding beginOf readyBegin
-begin-tells own level name room M e =
+begin-tells asked name room M e =
     let a = then-inv _ _ _ e in
     let b = need-inv _ _ _ _ (a .1) in
     let c = then-inv _ _ _ (a .2) in
     let d = name-tells name (c .0) (c .1) in
     let f = need-inv _ _ _ _ (c .2) in
-    let g : madeBegin own level (c .0) ≡ M = accept-inj _ _ (f .1) in (
-      eqb-false own 0 (not-true _ (b .0)),
+    let g : madeBegin asked (stored (c .0)) ≡ M = accept-inj _ _ (f .1) in (
+      eqb-false (asked .console) 0 (not-true _ (b .0)),
       d .0,
-      sym (accept-inj _ _ (f .1)) ∙ ap (madeBegin own level) (sym (d .1)),
+      sym (accept-inj _ _ (f .1)) ∙ ap (λ (n : List ℕ). madeBegin asked (stored n)) (sym (d .1)),
     )
 
 -- the open response

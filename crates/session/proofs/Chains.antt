@@ -1,5 +1,5 @@
 -- The tests of the steps, one law for each answer of a stage; the premises are the code's tests.
-use Prim.Native.Nat.{ℕ, _+_, _≤_, _<_}
+use Prim.Native.Nat.{ℕ, _≤_, _<_}
 use native.Mathlib.Omega.{arith}
 use mathlib.Core.Bool.{Bool, true, false, not, false≢true, _&&_, _||_}
 use mathlib.Core.List.{List}
@@ -7,18 +7,20 @@ use mathlib.Core.Path.{_≡_, refl, sym, _∙_, ap, ap₂}
 use lib.Dec.{eqb, leb}
 use lib.ListN.{length}
 use borrow.Author.Tests.{le-leb, lt-leb, eq-eqb, ne-eqb, leb-true, eqb-true}
-use Rattle.refusal.specs.Order.{Res, refuse, accept, need, andThen}
+use Rattle.refusal.specs.Order.{refuse, accept, need}
 use Rattle.refusal.proofs.Order.{pass, need-no, need-inv, then-refuse, then-accept, then-inv}
 use Rattle.messages.specs.Auth.{isLevel, authenticationCode, integrityCode, confidentialityCode}
-use Rattle.messages.specs.OpenSession.{Response, responseNumbers, openResponse}
-use Rattle.messages.specs.Rakp.{message2, message4}
+use Rattle.messages.specs.OpenSession.{levelByte, responseNumbers, openResponse}
 use Rattle.messages.specs.declared.«open_session».RequestedPrivilege.{RequestedPrivilege}
+use Rattle.messages.specs.Rakp.{message2, message4}
 use Rattle.messages.specs.declared.«open_session».RequestedPrivilege.the-variants.{None, Level}
 use Rattle.messages.specs.declared.«open_session».OpenSessionResponse.{OpenSessionResponse}
 use Rattle.messages.specs.declared.«rakp_2».RakpMessage2.{RakpMessage2}
 use Rattle.messages.specs.declared.«rakp_4».RakpMessage4.{RakpMessage4}
+use Rattle.session.specs.Constants.{openTag, tag1, tag3, kgSize, legalKg, codeSize, oneSize, threeSize}
 use Rattle.session.specs.Record.{stepNumber, inStep}
-use Rattle.session.specs.Steps.{levelAllowed, readyBegin, readyOpen, carried, heardOpen, readyTwo, heardTwo, readyFour, heardFour, valueFour, openTag, tag1, tag3}
+use Rattle.session.specs.Steps.{levelAllowed, readyBegin, readyOpen, carried, heardOpen, readyTwo, heardTwo, readyFour, heardFour, valueFour}
+use Rattle.session.specs.declared.Asked.{Asked}
 use Rattle.session.specs.declared.Record.{Record}
 use Rattle.octets.specs.Equal.{same}
 use lib.ListN.{drop}
@@ -27,39 +29,42 @@ use lib.ListN.{drop}
 module _ (s : Record) (k n : ℕ) (e : n ≡ stepNumber (s .step)) where
   pub in-no : (n ≡ k → ⊥) → false ≡ inStep s k
   unfolding inStep
-  in-no d = sym (ap (λ (t : Bool). t && leb (s .username .len) 16) (ne-eqb (stepNumber (s .step)) k (λ h. d (e ∙ h))))
+  in-no d = sym (ap (λ (t : Bool). t && leb (s .begun .username .len) 16) (ne-eqb (stepNumber (s .step)) k (λ h. d (e ∙ h))))
 
-  pub in-yes : n ≡ k → leb (s .username .len) 16 ≡ inStep s k
+  pub in-yes : n ≡ k → leb (s .begun .username .len) 16 ≡ inStep s k
   unfolding inStep
-  in-yes h = sym (ap (λ (t : Bool). t && leb (s .username .len) 16) (eq-eqb (stepNumber (s .step)) k (sym e ∙ h)))
+  in-yes h = sym (ap (λ (t : Bool). t && leb (s .begun .username .len) 16) (eq-eqb (stepNumber (s .step)) k (sym e ∙ h)))
 
 and-right : (a b : Bool) → (a && b) ≡ true → b ≡ true
 and-right true b e = e
 and-right false true e = refl
 and-right false false e = e
 
-pub in-len : (s : Record) (k : ℕ) → inStep s k ≡ true → s .username .len ≤ 16
+pub in-len : (s : Record) (k : ℕ) → inStep s k ≡ true → s .begun .username .len ≤ 16
 unfolding inStep
-in-len s k e = leb-true (s .username .len) 16 (and-right (eqb (stepNumber (s .step)) k) (leb (s .username .len) 16) e)
+in-len s k e = leb-true (s .begun .username .len) 16 (and-right (eqb (stepNumber (s .step)) k) (leb (s .begun .username .len) 16) e)
 
 -- Begin
-module _ (own : ℕ) (level : RequestedPrivilege) where
-  pub begin20 : own ≡ 0 → refuse 20 0 ≡ readyBegin own level
+module _ (asked : Asked) where
+  pub begin20 : asked .console ≡ 0 → refuse 20 0 ≡ readyBegin asked
   unfolding readyBegin
-  begin20 e = sym (need-no _ _ _ _ (ap not (eq-eqb own 0 e)))
+  begin20 e = sym (need-no _ _ _ _ (ap not (eq-eqb _ 0 e)))
 
-  module _ (d : own ≡ 0 → ⊥) where
-    pub begin-none : level ≡ None → accept 0 ≡ readyBegin own level
+  module _ (d : asked .console ≡ 0 → ⊥) where
+    pub begin-none : asked .level ≡ None → accept 0 ≡ readyBegin asked
     unfolding readyBegin
-    begin-none e = sym (pass _ _ _ _ (ap not (ne-eqb own 0 d)) (pass _ _ _ _ (ap levelAllowed e) refl))
+    begin-none e = sym (pass _ _ _ _ (ap not (ne-eqb _ 0 d)) (pass _ _ _ _ (ap levelAllowed e) refl))
 
-    pub begin-level : (b : ℕ) → level ≡ Level b → true ≡ isLevel b → accept 0 ≡ readyBegin own level
+    pub begin-level : (b : ℕ) → asked .level ≡ Level b → true ≡ isLevel b → accept 0 ≡ readyBegin asked
     unfolding readyBegin
-    begin-level b e f = sym (pass _ _ _ _ (ap not (ne-eqb own 0 d)) (pass _ _ _ _ (ap levelAllowed e ∙ sym f) refl))
+    begin-level b e f = sym (pass _ _ _ _ (ap not (ne-eqb _ 0 d)) (pass _ _ _ _ (ap levelAllowed e ∙ sym f) refl))
 
-    pub begin19 : (b : ℕ) → level ≡ Level b → false ≡ isLevel b → refuse 19 b ≡ readyBegin own level
+    pub begin19 : (b : ℕ) → asked .level ≡ Level b → false ≡ isLevel b → refuse 19 b ≡ readyBegin asked
     unfolding readyBegin
-    begin19 b e f = sym (ap (readyBegin own) e ∙ pass _ _ _ _ (ap not (ne-eqb own 0 d)) (need-no _ _ _ _ (sym f)))
+    begin19 b e f =
+        sym
+        (pass _ _ _ _ (ap not (ne-eqb _ 0 d))
+        (need-no _ _ _ _ (ap levelAllowed e ∙ sym f) ∙ ap (λ (l : RequestedPrivilege). refuse 19 (levelByte l)) e))
 
 -- before the open response is looked at
 module _ (s : Record) (room : ℕ) where
@@ -67,15 +72,15 @@ module _ (s : Record) (room : ℕ) where
   unfolding readyOpen
   open33 e = sym (need-no _ _ _ _ e)
 
-  pub open15 : inStep s 1 ≡ true → room < 28 + s .username .len → refuse 15 0 ≡ readyOpen s room
+  pub open15 : inStep s 1 ≡ true → room < oneSize (s .begun .username .len) → refuse 15 0 ≡ readyOpen s room
   unfolding readyOpen
   open15 e h = sym (pass _ _ _ _ e (need-no _ _ _ _ (lt-leb _ _ h)))
 
-  pub open-ready : inStep s 1 ≡ true → 28 + s .username .len ≤ room → accept 0 ≡ readyOpen s room
+  pub open-ready : inStep s 1 ≡ true → oneSize (s .begun .username .len) ≤ room → accept 0 ≡ readyOpen s room
   unfolding readyOpen
   open-ready e h = sym (pass _ _ _ _ e (pass _ _ _ _ (le-leb _ _ h) refl))
 
-  pub open-known : {k : ℕ} → readyOpen s room ≡ accept k → (s .username .len ≤ 16) × (28 + s .username .len ≤ room)
+  pub open-known : {k : ℕ} → readyOpen s room ≡ accept k → (s .begun .username .len ≤ 16) × (oneSize (s .begun .username .len) ≤ room)
   unfolding readyOpen
   open-known e =
       let t = need-inv _ _ _ _ e in
@@ -105,18 +110,21 @@ module _ (s : Record) (m : List ℕ) where
 
   module _ (r : OpenSessionResponse) (e : openResponse m ≡ accept (responseNumbers r)) where
     heard-open : heardOpen s m
-        ≡ need (eqb (r .tag) openTag) 27 0 (need (eqb (r .console) (s .console)) 28 0 (need (carried (responseNumbers r)) 29 0 (accept (responseNumbers r))))
+        ≡ need (eqb (r .tag) openTag) 27 0
+        (need (eqb (r .console) (s .begun .console)) 28 0
+        (need (carried (responseNumbers r)) 29 0
+        (accept (responseNumbers r))))
     unfolding heardOpen responseNumbers
     heard-open = then-accept _ _ _ e
 
-    pub open27 : (r .tag ≡ 0 → ⊥) → refuse 27 0 ≡ heardOpen s m
+    pub open27 : (r .tag ≡ openTag → ⊥) → refuse 27 0 ≡ heardOpen s m
     open27 d = sym (heard-open ∙ need-no _ _ _ _ (ne-eqb _ _ d))
 
-    module _ (t : r .tag ≡ 0) where
-      pub open28 : (r .console ≡ s .console → ⊥) → refuse 28 0 ≡ heardOpen s m
+    module _ (t : r .tag ≡ openTag) where
+      pub open28 : (r .console ≡ s .begun .console → ⊥) → refuse 28 0 ≡ heardOpen s m
       open28 d = sym (heard-open ∙ pass _ _ _ _ (eq-eqb _ _ t) (need-no _ _ _ _ (ne-eqb _ _ d)))
 
-      module _ (c : r .console ≡ s .console) where
+      module _ (c : r .console ≡ s .begun .console) where
         pub open29 : carried (responseNumbers r) ≡ false → refuse 29 0 ≡ heardOpen s m
         open29 d = sym (heard-open ∙ pass _ _ _ _ (eq-eqb _ _ t) (pass _ _ _ _ (eq-eqb _ _ c) (need-no _ _ _ _ d)))
 
@@ -130,32 +138,32 @@ module _ (most : ℕ) (s : Record) (kg password : List ℕ) (room : ℕ) where
   two33 e = sym (need-no _ _ _ _ e)
 
   module _ (e : inStep s 2 ≡ true) where
-    pub two35 : (eqb (length kg) 0 || eqb (length kg) 20) ≡ false → refuse 35 0 ≡ readyTwo most s kg password room
+    pub two35 : legalKg (length kg) ≡ false → refuse 35 0 ≡ readyTwo most s kg password room
     unfolding readyTwo
     two35 f = sym (pass _ _ _ _ e (need-no _ _ _ _ f))
 
-    module _ (f : (eqb (length kg) 0 || eqb (length kg) 20) ≡ true) where
+    module _ (f : legalKg (length kg) ≡ true) where
       pub two36 : most < length password → refuse 36 0 ≡ readyTwo most s kg password room
       unfolding readyTwo
       two36 h = sym (pass _ _ _ _ e (pass _ _ _ _ f (need-no _ _ _ _ (lt-leb _ _ h))))
 
-      pub two15 : length password ≤ most → room < 28 → refuse 15 0 ≡ readyTwo most s kg password room
+      pub two15 : length password ≤ most → room < threeSize → refuse 15 0 ≡ readyTwo most s kg password room
       unfolding readyTwo
       two15 g h = sym (pass _ _ _ _ e (pass _ _ _ _ f (pass _ _ _ _ (le-leb _ _ g) (need-no _ _ _ _ (lt-leb _ _ h)))))
 
-      pub two-ready : length password ≤ most → 28 ≤ room → accept 0 ≡ readyTwo most s kg password room
+      pub two-ready : length password ≤ most → threeSize ≤ room → accept 0 ≡ readyTwo most s kg password room
       unfolding readyTwo
       two-ready g h = sym (pass _ _ _ _ e (pass _ _ _ _ f (pass _ _ _ _ (le-leb _ _ g) (pass _ _ _ _ (le-leb _ _ h) refl))))
 
-  legal-short : (eqb (length kg) 0 || eqb (length kg) 20) ≡ true → length kg ≤ 20
-  legal-short e = by (eqb (length kg) 0) (eqb (length kg) 20) refl refl e
+  legal-short : legalKg (length kg) ≡ true → length kg ≤ kgSize
+  legal-short e = by (eqb (length kg) 0) (eqb (length kg) kgSize) refl refl e
     where
-      by : (a b : Bool) → eqb (length kg) 0 ≡ a → eqb (length kg) 20 ≡ b → (a || b) ≡ true → length kg ≤ 20
+      by : (a b : Bool) → eqb (length kg) 0 ≡ a → eqb (length kg) kgSize ≡ b → (a || b) ≡ true → length kg ≤ kgSize
       by true b p q h = omega (arith, eqb-true (length kg) 0 p)
-      by false true p q h = omega (arith, eqb-true (length kg) 20 q)
+      by false true p q h = omega (arith, eqb-true (length kg) kgSize q)
       by false false p q h = absurd (false≢true h)
 
-  pub two-known : {k : ℕ} → readyTwo most s kg password room ≡ accept k → (length kg ≤ 20) × (length password ≤ most) × (28 ≤ room)
+  pub two-known : {k : ℕ} → readyTwo most s kg password room ≡ accept k → (length kg ≤ kgSize) × (length password ≤ most) × (threeSize ≤ room)
   unfolding readyTwo
   two-known e =
       let t = need-inv _ _ _ _ e in
@@ -171,22 +179,26 @@ module _ (s : Record) (m : List ℕ) where
   heard-two-refused n v e = then-refuse _ _ n v e
 
   module _ (f : RakpMessage2) (e : message2 m ≡ accept f) where
-    heard-two : heardTwo s m ≡ need (eqb (f .tag) tag1) 27 0 (need (eqb (f .console) (s .console)) 28 0 (need (eqb (f .code .len) 20) 30 0 (accept f)))
+    heard-two : heardTwo s m
+        ≡ need (eqb (f .tag) tag1) 27 0
+        (need (eqb (f .console) (s .begun .console)) 28 0
+        (need (eqb (f .code .len) codeSize) 30 0
+        (accept f)))
     unfolding heardTwo
     heard-two = then-accept _ _ f e
 
-    pub two27 : (f .tag ≡ 0x0d → ⊥) → heardTwo s m ≡ refuse 27 0
+    pub two27 : (f .tag ≡ tag1 → ⊥) → heardTwo s m ≡ refuse 27 0
     two27 d = heard-two ∙ need-no _ _ _ _ (ne-eqb _ _ d)
 
-    module _ (t : f .tag ≡ 0x0d) where
-      pub two28 : (f .console ≡ s .console → ⊥) → heardTwo s m ≡ refuse 28 0
+    module _ (t : f .tag ≡ tag1) where
+      pub two28 : (f .console ≡ s .begun .console → ⊥) → heardTwo s m ≡ refuse 28 0
       two28 d = heard-two ∙ pass _ _ _ _ (eq-eqb _ _ t) (need-no _ _ _ _ (ne-eqb _ _ d))
 
-      module _ (c : f .console ≡ s .console) where
-        pub two30 : (f .code .len ≡ 20 → ⊥) → heardTwo s m ≡ refuse 30 0
+      module _ (c : f .console ≡ s .begun .console) where
+        pub two30 : (f .code .len ≡ codeSize → ⊥) → heardTwo s m ≡ refuse 30 0
         two30 d = heard-two ∙ pass _ _ _ _ (eq-eqb _ _ t) (pass _ _ _ _ (eq-eqb _ _ c) (need-no _ _ _ _ (ne-eqb _ _ d)))
 
-        pub two-heard : f .code .len ≡ 20 → heardTwo s m ≡ accept f
+        pub two-heard : f .code .len ≡ codeSize → heardTwo s m ≡ accept f
         two-heard d = heard-two ∙ pass _ _ _ _ (eq-eqb _ _ t) (pass _ _ _ _ (eq-eqb _ _ c) (pass _ _ _ _ (eq-eqb _ _ d) refl))
 
   pub two-found : (f : RakpMessage2) → heardTwo s m ≡ accept f → message2 m ≡ accept f
@@ -214,18 +226,21 @@ module _ (s : Record) (m : List ℕ) where
 
   module _ (f : RakpMessage4) (e : message4 m ≡ accept f) where
     heard-four : heardFour s m
-        ≡ need (eqb (f .tag) tag3) 27 0 (need (eqb (f .id) (s .console)) 28 0 (need (same (drop (f .value .at) m) (valueFour s)) 32 0 (accept f)))
+        ≡ need (eqb (f .tag) tag3) 27 0
+        (need (eqb (f .id) (s .begun .console)) 28 0
+        (need (same (drop (f .value .at) m) (valueFour s)) 32 0
+        (accept f)))
     unfolding heardFour
     heard-four = then-accept _ _ f e
 
-    pub four27 : (f .tag ≡ 0x0a → ⊥) → heardFour s m ≡ refuse 27 0
+    pub four27 : (f .tag ≡ tag3 → ⊥) → heardFour s m ≡ refuse 27 0
     four27 d = heard-four ∙ need-no _ _ _ _ (ne-eqb _ _ d)
 
-    module _ (t : f .tag ≡ 0x0a) where
-      pub four28 : (f .id ≡ s .console → ⊥) → heardFour s m ≡ refuse 28 0
+    module _ (t : f .tag ≡ tag3) where
+      pub four28 : (f .id ≡ s .begun .console → ⊥) → heardFour s m ≡ refuse 28 0
       four28 d = heard-four ∙ pass _ _ _ _ (eq-eqb _ _ t) (need-no _ _ _ _ (ne-eqb _ _ d))
 
-      module _ (c : f .id ≡ s .console) where
+      module _ (c : f .id ≡ s .begun .console) where
         pub four32 : same (drop (f .value .at) m) (valueFour s) ≡ false → heardFour s m ≡ refuse 32 0
         four32 d = heard-four ∙ pass _ _ _ _ (eq-eqb _ _ t) (pass _ _ _ _ (eq-eqb _ _ c) (need-no _ _ _ _ d))
 

@@ -13,27 +13,31 @@ use Rattle.keys.specs.Keys.{keysOf, aesKeyOf}
 use Rattle.messages.specs.Name.{stored}
 use Rattle.messages.specs.OpenSession.{Response, openResponse}
 use Rattle.messages.specs.Rakp.{message1, message2, message4}
-use Rattle.messages.specs.declared.«open_session».RequestedPrivilege.{RequestedPrivilege}
 use Rattle.messages.specs.declared.«rakp_1».RakpMessage1.{RakpMessage1}
 use Rattle.messages.specs.declared.«rakp_2».RakpMessage2.{RakpMessage2}
-use Rattle.session.specs.Record.{stepNumber, begunWith, answered, keyed, opened}
-use Rattle.session.specs.Steps.{Made, tag1, tag3, role, requestOf, madeBegin, beginOf, madeOpen, openOf, who, codeTwo, sikTwo, codeThree, madeTwo, twoOf, valueFour, fourOf}
-use Rattle.session.specs.System.{System, Regular, sidmIn, rmIn, whoIn, headTo, response, codeIn, second, sikIn, keysIn, valueIn, fourth, TakesThree}
+use Rattle.session.specs.Constants.{tag1, tag3, codeSize, oneSize, threeSize}
+use Rattle.session.specs.Record.{stepNumber, begunOf, begunWith, agreedOf, answered, keyed, opened}
+use Rattle.session.specs.Steps.{Made, requestOf, madeBegin, beginOf, oneTo, madeOpen, openOf, who, codeTwo}
+use Rattle.session.specs.Steps.{sikTwo, codeThree, madeTwo, twoOf, valueFour, fourOf}
+use Rattle.session.specs.System.{System, Regular, sidmIn, rmIn, whoIn, headTo, response, codeIn}
+use Rattle.session.specs.System.{second, sikIn, keysIn, valueIn, fourth, TakesThree}
 use Rattle.session.specs.Exchange.{Exchange}
+use Rattle.session.specs.declared.Asked.{Asked}
 use Rattle.session.specs.declared.Record.{Record}
 use Rattle.session.proofs.Accepted.{begin-tells}
 use Rattle.session.proofs.Accepting.{is-in-step, are-carried, open-accepts, two-accepts, four-accepts, four-refuses}
-use Rattle.session.proofs.Heard.{responseBytes, responseSays, response-heard, twoBytes, twoSays, two-code, two-heard, fourBytes, fourSays, four-heard, request-tag, request-sidm, one-tag, one-system, one-rm, one-who, three-tag, three-status, three-system, three-code}
+use Rattle.session.proofs.Heard.{responseBytes, responseSays, response-heard, twoBytes, twoSays, two-code, two-heard, fourBytes, fourSays, four-heard}
+use Rattle.session.proofs.Heard.{request-tag, request-sidm, one-tag, one-system, one-rm, one-who, three-tag, three-status, three-system, three-code}
 
 -- messages 2 to 4, from a console that has taken the response: its record s, and what the system has heard by then
-module _ (y : System) (r : Regular y) (s : Record) (request one : List ℕ) (a : s .console < 2 ^ 32) (b : s .console ≡ 0 → ⊥)
-    (w : s .username .len ≤ 16) (i : sidmIn request ≡ s .console) (j : s .system ≡ y .id) (g : getD one 0 0 ≡ tag1)
+module _ (y : System) (r : Regular y) (s : Record) (request one : List ℕ) (a : s .begun .console < 2 ^ 32) (b : s .begun .console ≡ 0 → ⊥)
+    (w : s .begun .username .len ≤ 16) (i : sidmIn request ≡ s .begun .console) (j : s .system ≡ y .id) (g : getD one 0 0 ≡ tag1)
     (u : rmIn one ≡ s .rm) (v : whoIn one ≡ who s) where
   -- what the console reads in message 2
   abbrev said : RakpMessage2
-  said = twoSays tag1 (s .console) (y .random) (y .guid)
+  said = twoSays tag1 (s .begun .console) (y .random) (y .guid)
 
-  code-length : length (codeIn y request one) ≡ 20
+  code-length : length (codeIn y request one) ≡ codeSize
   unfolding codeIn
   code-length = mac-length _ _
 
@@ -41,19 +45,19 @@ module _ (y : System) (r : Regular y) (s : Record) (request one : List ℕ) (a :
   unfolding codeIn codeTwo
   code-agrees =
       rw (i, u, v)
-      (ap (λ (x : ℕ). code2 hmacSha1 (y .password) (s .console) x (s .rm) (y .random) (y .guid) (who s)) (sym j))
+      (ap (λ (x : ℕ). code2 hmacSha1 (y .password) (s .begun .console) x (s .rm) (y .random) (y .guid) (who s)) (sym j))
 
-  second-is : second y request one ≡ twoBytes tag1 (s .console) (y .random) (y .guid) (codeIn y request one)
+  second-is : second y request one ≡ twoBytes tag1 (s .begun .console) (y .random) (y .guid) (codeIn y request one)
   unfolding second
   second-is = ap₂ (λ (t x : ℕ). twoBytes t x (y .random) (y .guid) (codeIn y request one)) g i
 
-  two-taken : (most room : ℕ) → stepNumber (s .step) ≡ 2 → length (y .password) ≤ most → 28 ≤ room
+  two-taken : (most room : ℕ) → stepNumber (s .step) ≡ 2 → length (y .password) ≤ most → threeSize ≤ room
       → twoOf most s (y .kg) (y .password) (second y request one) room ≡ accept (madeTwo s (y .kg) (y .password) said)
   two-taken most room e p h =
       two-accepts most s (y .kg) (y .password) (second y request one) room said (is-in-step s 2 e w) (r .kg) p h
-      (ap message2 second-is ∙ two-heard tag1 (s .console) (y .random) (y .guid) _ a b (r .random) (r .guid) code-length)
+      (ap message2 second-is ∙ two-heard tag1 (s .begun .console) (y .random) (y .guid) _ a b (r .random) (r .guid) code-length)
       refl refl refl
-      (ap (drop 40) second-is ∙ two-code tag1 (s .console) (y .random) (y .guid) _ a b (r .random) (r .guid) code-length ∙ code-agrees)
+      (ap (drop 40) second-is ∙ two-code tag1 (s .begun .console) (y .random) (y .guid) _ a b (r .random) (r .guid) code-length ∙ code-agrees)
 
   sik-agrees : sikTwo s (y .kg) (y .password) said ≡ sikIn y one
   unfolding sikTwo sikIn
@@ -78,70 +82,72 @@ module _ (y : System) (r : Regular y) (s : Record) (request one : List ℕ) (a :
   value-agrees = rw (sik-agrees, u, j)
 
   module _ (three : List ℕ) (t : getD three 0 0 ≡ tag3) (x : List ℕ) where
-    fourth-is : headTo request three ++ x ≡ fourBytes tag3 (s .console) x
+    fourth-is : headTo request three ++ x ≡ fourBytes tag3 (s .begun .console) x
     fourth-is = ap₂ (λ (c d : ℕ). fourBytes c d x) t i
 
-    four-read : message4 (headTo request three ++ x) ≡ accept (fourSays tag3 (s .console) x)
-    four-read = ap message4 fourth-is ∙ four-heard tag3 (s .console) x a b
+    four-read : message4 (headTo request three ++ x) ≡ accept (fourSays tag3 (s .begun .console) x)
+    four-read = ap message4 fourth-is ∙ four-heard tag3 (s .begun .console) x a b
 
     four-taken : x ≡ valueIn y one → fourOf checking (headTo request three ++ x) ≡ accept (record { next = opened checking; bytes = [] })
     unfolding keyed
     four-taken e =
-        four-accepts checking _ (fourSays tag3 (s .console) x) (is-in-step checking 3 refl w) four-read refl refl (e ∙ sym value-agrees)
+        four-accepts checking _ (fourSays tag3 (s .begun .console) x) (is-in-step checking 3 refl w) four-read refl refl (e ∙ sym value-agrees)
 
     four-refused : (x ≡ valueIn y one → ⊥) → fourOf checking (headTo request three ++ x) ≡ refuse 32 0
     unfolding keyed
     four-refused d =
-        four-refuses checking _ (fourSays tag3 (s .console) x) (is-in-step checking 3 refl w) four-read refl refl
+        four-refuses checking _ (fourSays tag3 (s .begun .console) x) (is-in-step checking 3 refl w) four-read refl refl
         (λ e. d (e ∙ value-agrees))
 
 -- the whole, from what Begin made
-module _ (most : ℕ) (y : System) (r : Regular y) (own : ℕ) (level : RequestedPrivilege) (n rm : List ℕ) (room₁ room₃ : ℕ)
-    (a : own < 2 ^ 32) (b : own ≡ 0 → ⊥) (l : length n ≤ 16) (k : length rm ≡ 16) (p : length (y .password) ≤ most)
-    (h₁ : 28 + length n ≤ room₁) (h₃ : 28 ≤ room₃) where
+module _ (most : ℕ) (y : System) (r : Regular y) (asked : Asked) (n rm : List ℕ) (room₁ room₃ : ℕ)
+    (a : asked .console < 2 ^ 32) (b : asked .console ≡ 0 → ⊥) (l : length n ≤ 16) (k : length rm ≡ 16) (p : length (y .password) ≤ most)
+    (h₁ : oneSize (length n) ≤ room₁) (h₃ : threeSize ≤ room₃) where
   abbrev request : List ℕ
-  request = requestOf own level
+  request = requestOf asked
 
   abbrev says : Response
-  says = responseSays 0 (y .level) own (y .id) (y .integrity) (y .confidentiality)
+  says = responseSays 0 (y .level) (asked .console) (y .id) (y .integrity) (y .confidentiality)
 
   abbrev waiting : Record
-  waiting = answered (begunWith own n) says rm
+  waiting = answered (begunWith (begunOf asked (stored n))) says rm
 
   abbrev first : RakpMessage1
-  first = record { tag = tag1; system = y .id; random = rm; role = role; username = stored n }
+  first = oneTo (y .id) (begunWith (begunOf asked (stored n))) rm
 
-  response-is : response y request ≡ responseBytes 0 (y .level) own (y .id) (y .integrity) (y .confidentiality)
+  response-is : response y request ≡ responseBytes 0 (y .level) (asked .console) (y .id) (y .integrity) (y .confidentiality)
   unfolding response
   response-is =
-      ap₂ (λ (t x : ℕ). responseBytes t (y .level) x (y .id) (y .integrity) (y .confidentiality)) (request-tag own level) (request-sidm own level a)
+      ap₂ (λ (t x : ℕ). responseBytes t (y .level) x (y .id) (y .integrity) (y .confidentiality)) (request-tag asked) (request-sidm asked a)
 
-  open-taken : openOf (begunWith own n) (response y request) rm room₁ ≡ accept (madeOpen (begunWith own n) rm says)
-  unfolding begunWith stored
+  open-taken : openOf (begunWith (begunOf asked (stored n))) (response y request) rm room₁
+      ≡ accept (madeOpen (begunWith (begunOf asked (stored n))) rm says)
+  unfolding begunWith begunOf stored
   open-taken =
-      open-accepts (begunWith own n) (response y request) rm room₁ says (is-in-step (begunWith own n) 1 refl l) h₁
+      open-accepts (begunWith (begunOf asked (stored n))) (response y request) rm room₁ says (is-in-step (begunWith (begunOf asked (stored n))) 1 refl l) h₁
       (ap openResponse response-is
-      ∙ response-heard 0 (y .level) own (y .id) (y .integrity) (y .confidentiality) a b (r .small) (r .id) (r .level) (r .integrity) (r .confidentiality))
+      ∙ response-heard 0 (y .level) (asked .console) (y .id) (y .integrity) (y .confidentiality)
+      a b (r .small) (r .id) (r .level) (r .integrity) (r .confidentiality))
       refl refl (are-carried says refl (r .integrity) (r .confidentiality))
 
   who-agrees : whoIn (message1 first) ≡ who waiting
-  unfolding who answered begunWith
+  unfolding who answered begunWith begunOf
   who-agrees = one-who first k
 
   abbrev proving : Made
-  proving = madeTwo waiting (y .kg) (y .password) (twoSays tag1 own (y .random) (y .guid))
+  proving = madeTwo waiting (y .kg) (y .password) (twoSays tag1 (asked .console) (y .random) (y .guid))
 
-  exchanged : Exchange most y rm room₁ room₃ (madeBegin own level n)
-  unfolding madeBegin madeOpen madeTwo answered begunWith keyed opened keysOf keysIn fourth stored
+  exchanged : Exchange most y rm room₁ room₃ (madeBegin asked (stored n))
+  unfolding madeBegin madeOpen madeTwo answered begunWith begunOf agreedOf keyed opened keysOf keysIn fourth stored
   exchanged =
-      let i = request-sidm own level a in
+      let i = request-sidm asked a in
       let g = one-tag first k in
       let u = one-rm first k in
       let v = who-agrees in
       let one : List ℕ = message1 first in
       let e = sik-agrees y r waiting request one a b l i refl g u v in
       record {
-        answered = madeOpen (begunWith own n) rm says;
+        answered = madeOpen (begunWith (begunOf asked (stored n))) rm says;
         keyed = proving;
         opened = record { next = opened (proving .next); bytes = [] };
         accepts-response = open-taken;
@@ -159,10 +165,10 @@ module _ (most : ℕ) (y : System) (r : Regular y) (own : ℕ) (level : Requeste
       }
 
 -- a console that began with an id and a name, and lends RM and rooms enough
-pub exchange : (most : ℕ) (y : System) (own : ℕ) (level : RequestedPrivilege) (name rm : List ℕ) (room room₁ room₃ : ℕ) (began : Made)
-    → beginOf own level name room ≡ accept began → own < 2 ^ 32 → Regular y → length (y .password) ≤ most → length rm ≡ 16
-    → 28 + length (take 16 name) ≤ room₁ → 28 ≤ room₃ → Exchange most y rm room₁ room₃ began
-exchange most y own level name rm room room₁ room₃ began e a r p k h₁ h₃ =
-    let t = begin-tells own level name room began e in
+pub exchange : (most : ℕ) (y : System) (asked : Asked) (name rm : List ℕ) (room room₁ room₃ : ℕ) (began : Made)
+    → beginOf asked name room ≡ accept began → asked .console < 2 ^ 32 → Regular y → length (y .password) ≤ most → length rm ≡ 16
+    → oneSize (length (take 16 name)) ≤ room₁ → threeSize ≤ room₃ → Exchange most y rm room₁ room₃ began
+exchange most y asked name rm room room₁ room₃ began e a r p k h₁ h₃ =
+    let t = begin-tells asked name room began e in
     let l : length (take 16 name) ≤ 16 = simp length-take (omega arith) in
-    rw (t .2) (exchanged most y r own level (take 16 name) rm room₁ room₃ a (t .0) l k p h₁ h₃)
+    rw (t .2) (exchanged most y r asked (take 16 name) rm room₁ room₃ a (t .0) l k p h₁ h₃)

@@ -19,15 +19,16 @@ use Rattle.messages.specs.Block.{lastCode, known, blockOf, ofType, blockBytes}
 use Rattle.messages.specs.Name.{nameOf}
 use Rattle.messages.specs.OpenSession.{Response, openRequest, openNumbers, openResponse}
 use Rattle.messages.specs.Rakp.{fields2, message2, message1, message3, fields4, message4}
-use Rattle.messages.specs.declared.«open_session».RequestedPrivilege.{RequestedPrivilege}
 use Rattle.messages.specs.declared.«rakp_1».RakpMessage1.{RakpMessage1}
 use Rattle.messages.specs.declared.«rakp_2».RakpMessage2.{RakpMessage2}
 use Rattle.messages.specs.declared.«rakp_3».RakpMessage3.{RakpMessage3}
 use Rattle.messages.specs.declared.«rakp_4».RakpMessage4.{RakpMessage4}
 use Rattle.messages.proofs.Opening.{fields-all, open-passed}
 use Rattle.messages.proofs.Tests.{checked-passed}
+use Rattle.session.specs.Constants.{openTag, codeSize}
 use Rattle.session.specs.Steps.{requestOf}
 use Rattle.session.specs.System.{sidmIn, rmIn, whoIn}
+use Rattle.session.specs.declared.Asked.{Asked}
 
 -- an id comes back from its four bytes
 id-back : (n : ℕ) → n < 2 ^ 32 → unle (le 4 n) ≡ n
@@ -69,14 +70,14 @@ abbrev pub twoBytes : ℕ → ℕ → List ℕ → List ℕ → List ℕ → Lis
 twoBytes tag own rc guid code = (tag ∷ 0 ∷ 0 ∷ 0 ∷ le 4 own) ++ rc ++ guid ++ code
 
 abbrev pub twoSays : ℕ → ℕ → List ℕ → List ℕ → RakpMessage2
-twoSays tag own rc guid = record { tag = tag; console = own; random = rc; guid = guid; code = record { at = 40; len = 20 } }
+twoSays tag own rc guid = record { tag = tag; console = own; random = rc; guid = guid; code = record { at = 40; len = codeSize } }
 
 module _ (tag own : ℕ) (rc guid code : List ℕ) (a : own < 2 ^ 32) (b : own ≡ 0 → ⊥) (d : length rc ≡ 16) (e : length guid ≡ 16)
-    (f : length code ≡ 20) where
+    (f : length code ≡ codeSize) where
   abbrev two : List ℕ
   two = twoBytes tag own rc guid code
 
-  two-length : length two ≡ 60
+  two-length : length two ≡ 40 + codeSize
   two-length = simp length-append (omega arith)
 
   two-random : part two 8 16 ≡ rc
@@ -95,7 +96,7 @@ module _ (tag own : ℕ) (rc guid code : List ℕ) (a : own < 2 ^ 32) (b : own �
   unfolding fields2
   two-fields =
       let n = two-length in
-      let w : length two - 40 ≡ 20 = omega arith in
+      let w : length two - 40 ≡ codeSize = omega arith in
       rw (id-back own a, two-random, two-guid, w)
 
   pub two-heard : message2 two ≡ accept (twoSays tag own rc guid)
@@ -122,13 +123,13 @@ four-heard tag own value a b =
     ∙ rw x
 
 -- what the system reads: the request
-pub request-tag : (own : ℕ) (level : RequestedPrivilege) → getD (requestOf own level) 0 0 ≡ 0
+pub request-tag : (asked : Asked) → getD (requestOf asked) 0 0 ≡ openTag
 unfolding requestOf openRequest
-request-tag own level = refl
+request-tag asked = refl
 
-pub request-sidm : (own : ℕ) (level : RequestedPrivilege) → own < 2 ^ 32 → sidmIn (requestOf own level) ≡ own
+pub request-sidm : (asked : Asked) → asked .console < 2 ^ 32 → sidmIn (requestOf asked) ≡ asked .console
 unfolding sidmIn requestOf openRequest
-request-sidm own level h = id-back own h
+request-sidm asked h = id-back (asked .console) h
 
 -- message 1
 module _ (s : RakpMessage1) (e : length (s .random) ≡ 16) where

@@ -2,24 +2,22 @@
 use Prim.Native.Nat.{ℕ}
 use mathlib.Core.Bool.{Bool, true, false, _||_}
 use mathlib.Core.List.{List}
-use mathlib.Core.Path.{_≡_, refl}
-use lib.Dec.{eqb}
-use Rattle.refusal.specs.Order.{Res, refuse, accept, need, andThen}
+use mathlib.Core.Path.{refl}
 use Rattle.refusal.specs.Table.{among}
 use Rattle.messages.specs.Block.{blockOf, ofType, known}
 use Rattle.messages.specs.Name.{usernameOf}
 use Rattle.messages.specs.OpenSession.{openChecked, openFields, openResponse}
 use Rattle.messages.specs.Rakp.{checked, message2, message4}
 use Rattle.messages.specs.Status.{common, numberIf, statusNumber}
-use Rattle.messages.specs.declared.«open_session».RequestedPrivilege.{RequestedPrivilege}
 use Rattle.session.specs.Steps.{readyBegin, readyOpen, heardOpen, readyTwo, heardTwo, readyFour, heardFour}
+use Rattle.session.specs.declared.Asked.{Asked}
 use Rattle.session.specs.declared.Record.{Record}
 use Rattle.session.proofs.Stages.{Only, Quiet, Keeps, Shuts, only-accept, only-need, only-then}
 
 -- Begin
-pub ready-begin-quiet : (own : ℕ) (level : RequestedPrivilege) → Only Quiet (readyBegin own level)
+pub ready-begin-quiet : (asked : Asked) → Only Quiet (readyBegin asked)
 unfolding readyBegin
-ready-begin-quiet own level = only-need Quiet _ _ _ _ refl (only-need Quiet _ _ _ _ refl (only-accept Quiet _))
+ready-begin-quiet asked = only-need Quiet _ _ _ _ refl (only-need Quiet _ _ _ _ refl (only-accept Quiet _))
 
 pub username-quiet : (name : List ℕ) → Only Quiet (usernameOf name)
 unfolding usernameOf

@@ -1,10 +1,11 @@
 -- Laws that serve every step: what a refusal of its first stage, of its second, and an acceptance make of the promise.
 use Prim.Native.Nat.{ℕ}
-use mathlib.Core.Bool.{Bool, true, false, cond}
-use mathlib.Core.List.{List, []}
-use mathlib.Core.Path.{_≡_, refl, sym, _∙_, ap, ap₂}
+use mathlib.Core.Bool.{Bool, true, false, not, cond}
+use mathlib.Core.List.{List}
+use mathlib.Core.Path.{_≡_, refl, sym, _∙_, ap₂}
 use lib.Dec.{eqb}
 use lib.ListN.{length}
+use borrow.Author.Tests.{not-true, not-false}
 use Rattle.refusal.specs.Order.{Res, refuse, accept, need, andThen}
 use Rattle.refusal.specs.Table.{numberOf, valueOf, among}
 use Rattle.refusal.specs.declared.Refusal.{Refusal}
@@ -14,11 +15,11 @@ use Rattle.octets.proofs.Place.{begun-none}
 use Rattle.messages.specs.Promises.{verdict}
 use Rattle.session.specs.Record.{closed}
 use Rattle.session.specs.Steps.{Made}
-use Rattle.session.specs.Made.{stoppedAt}
-use Rattle.session.specs.Promise.{StepPromise, keeping, recordAfter, written}
+use Rattle.session.specs.Parts.{refusedAt}
+use Rattle.session.specs.Promise.{StepPromise, keeping}
 use Rattle.session.specs.declared.Record.{Record}
 use Rattle.session.specs.declared.Stepped.{Stepped}
-use Rattle.session.specs.declared.StepAnswer.the-variants.{Done}
+use Rattle.refusal.specs.declared.Outcome.the-variants.{Done}
 
 -- every refusal of T has the property P
 abbrev pub Only : {A : Type 0} → (ℕ → Type 0) → Res A → Type 0
@@ -57,12 +58,12 @@ only-then P (accept a) f h g n v e = g a n v e
 
 -- a step refused before the message is looked at: the record stays
 pub kept : (R : Res Made) (s : Record) (out : List ℕ) (r : Refusal) (z : Stepped) → R ≡ refuse (numberOf r) (valueOf r) → Keeps (numberOf r)
-    → z ≡ stoppedAt s r → StepPromise R s out z out
+    → z ≡ refusedAt s r → StepPromise R s out z out
 kept R s out r z e k f = rw (e, f) (record { answer = refl; next = rw (k .0); len = rw (k .1); buffer = rw (k .1) (sym (begun-none out)) })
 
 -- a step refused for the message: the record closes
 pub shut : (R : Res Made) (s : Record) (out : List ℕ) (r : Refusal) (y : Record) (z : Stepped) → R ≡ refuse (numberOf r) (valueOf r)
-    → Shuts (numberOf r) → y ≡ closed → z ≡ stoppedAt y r → StepPromise R s out z out
+    → Shuts (numberOf r) → y ≡ closed → z ≡ refusedAt y r → StepPromise R s out z out
 shut R s out r y z e k g f = rw (e, f, g) (record { answer = refl; next = rw (k .0); len = rw (k .1); buffer = rw (k .1) (sym (begun-none out)) })
 
 -- a refused Begin: the record was closed and is
@@ -71,7 +72,7 @@ either-way true s = refl
 either-way false s = refl
 
 pub begin-stop : (R : Res Made) (out : List ℕ) (r : Refusal) (y : Record) (z : Stepped) → R ≡ refuse (numberOf r) (valueOf r)
-    → Quiet (numberOf r) → y ≡ closed → z ≡ stoppedAt y r → StepPromise R closed out z out
+    → Quiet (numberOf r) → y ≡ closed → z ≡ refusedAt y r → StepPromise R closed out z out
 begin-stop R out r y z e k g f =
     rw (e, f, g) (record { answer = refl; next = sym (either-way (among (numberOf r) keeping) closed); len = rw k; buffer = rw k (sym (begun-none out)) })
 
@@ -99,3 +100,10 @@ verdict-yes (accept a) e = (a, refl)
 pub verdict-no : {A : Type 0} (R : Res A) (n v : ℕ) → verdict R ≡ refuse n v → R ≡ refuse n v
 verdict-no (refuse m u) n v e = refused-as m u n v e
 verdict-no (accept a) n v e = absurd (refuse≢accept n v 0 (sym e))
+
+-- what a negated test says of the definition that its function keeps
+pub test-no : {r t : Bool} → r ≡ t → not r ≡ true → t ≡ false
+test-no {r = r} e h = sym e ∙ not-true r h
+
+pub test-yes : {r t : Bool} → r ≡ t → not r ≡ false → t ≡ true
+test-yes {r = r} e h = sym e ∙ not-false r h

@@ -26,7 +26,7 @@ pub record Exchange (most : ℕ) (y : System) (rm : List ℕ) (room₁ room₃ :
       → fourOf (keyed .next) (headTo (began .bytes) (keyed .bytes) ++ x) ≡ refuse 32 0
   pub opens : opened .next .step ≡ Open
   pub system : opened .next .system ≡ y .id
-  pub integrity : opened .next .integrity ≡ integrityIf (eqb (y .integrity) 0)
-  pub confidentiality : opened .next .confidentiality ≡ confidentialityIf (eqb (y .confidentiality) 0)
+  pub integrity : opened .next .agreed .integrity ≡ integrityIf (eqb (y .integrity) 0)
+  pub confidentiality : opened .next .agreed .confidentiality ≡ confidentialityIf (eqb (y .confidentiality) 0)
   pub k1 : opened .next .keys .k1 ≡ keysIn y (answered .bytes) .k1
   pub aes-key : aesKeyOf (opened .next .keys) ≡ aesKeyOf (keysIn y (answered .bytes))

@@ -5,31 +5,30 @@ use mathlib.Core.List.{List}
 use mathlib.Core.Path.{_≡_}
 use lib.ListN.{take, drop, replicate}
 use Rattle.messages.specs.Name.{allowed, nameOf, stored}
-use Rattle.messages.specs.declared.«open_session».RequestedPrivilege.{RequestedPrivilege}
-use Rattle.session.specs.Record.{stepNumber, closed}
+use Rattle.session.specs.Record.{stepNumber, closed, begunOf}
 use Rattle.session.specs.Steps.{beginOf, openOf, twoOf, fourOf}
 use Rattle.session.specs.Promise.{recordAfter}
+use Rattle.session.specs.declared.Asked.{Asked}
 use Rattle.session.specs.declared.Record.{Record}
 
 -- the name has at most sixteen bytes, each ASCII and not zero, and zeros stand past it; the console's id is not zero once a step is
 -- waited for, nor the system's once its response was taken; and where no step is waited for, all is zero
 pub record Sound (s : Record) : Type 0 where
-  pub len : s .username .len ≤ 16
-  pub legal : allowed (nameOf (s .username)) ≡ true
-  pub past : drop (s .username .len) (s .username .bytes) ≡ replicate (16 - s .username .len) 0
-  pub console : 1 ≤ stepNumber (s .step) → s .console ≡ 0 → ⊥
+  pub len : s .begun .username .len ≤ 16
+  pub legal : allowed (nameOf (s .begun .username)) ≡ true
+  pub past : drop (s .begun .username .len) (s .begun .username .bytes) ≡ replicate (16 - s .begun .username .len) 0
+  pub console : 1 ≤ stepNumber (s .step) → s .begun .console ≡ 0 → ⊥
   pub system : 2 ≤ stepNumber (s .step) → s .system ≡ 0 → ⊥
   pub shut : stepNumber (s .step) ≡ 0 → s ≡ closed
 
--- the id and the name are those that Begin was given, until the record closes
-pub record Holds (own : ℕ) (name : List ℕ) (s : Record) : Type 0 where
-  pub console : 1 ≤ stepNumber (s .step) → s .console ≡ own
-  pub username : 1 ≤ stepNumber (s .step) → s .username ≡ stored (take 16 name)
+-- what Begin fixed is what it was given, until the record closes
+pub record Holds (asked : Asked) (name : List ℕ) (s : Record) : Type 0 where
+  pub begun : 1 ≤ stepNumber (s .step) → s .begun ≡ begunOf asked (stored (take 16 name))
 
--- the records that the steps make, in any order, after a Begin that was given this id and this name
-pub data Reached (own : ℕ) (name : List ℕ) : Record → Type 0 where
-  by-begin : (level : RequestedPrivilege) (room : ℕ) → Reached own name (recordAfter closed (beginOf own level name room))
-  by-open : (s : Record) (m rm : List ℕ) (room : ℕ) → Reached own name s → Reached own name (recordAfter s (openOf s m rm room))
-  by-two : (most : ℕ) (s : Record) (kg password m : List ℕ) (room : ℕ) → Reached own name s
-      → Reached own name (recordAfter s (twoOf most s kg password m room))
-  by-four : (s : Record) (m : List ℕ) → Reached own name s → Reached own name (recordAfter s (fourOf s m))
+-- the records that the steps make, in any order, after a Begin with this request and this name
+pub data Reached (asked : Asked) (name : List ℕ) : Record → Type 0 where
+  by-begin : (room : ℕ) → Reached asked name (recordAfter closed (beginOf asked name room))
+  by-open : (s : Record) (m rm : List ℕ) (room : ℕ) → Reached asked name s → Reached asked name (recordAfter s (openOf s m rm room))
+  by-two : (most : ℕ) (s : Record) (kg password m : List ℕ) (room : ℕ) → Reached asked name s
+      → Reached asked name (recordAfter s (twoOf most s kg password m room))
+  by-four : (s : Record) (m : List ℕ) → Reached asked name s → Reached asked name (recordAfter s (fourOf s m))

@@ -1,6 +1,7 @@
+pub mod Constants
 pub mod Record
 pub mod Steps
-pub mod Made
+pub mod Parts
 pub mod Promise
 pub mod Invariant
 pub mod System

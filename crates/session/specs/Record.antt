@@ -8,8 +8,11 @@ use Rattle.frame.specs.declared.Confidentiality as C
 use Rattle.frame.specs.declared.Integrity as I
 use Rattle.keys.specs.Keys.{keysOf}
 use Rattle.keys.specs.declared.keys.Keys.{Keys}
-use Rattle.messages.specs.Name.{stored}
 use Rattle.messages.specs.OpenSession.{Response}
+use Rattle.messages.specs.declared.«rakp_1».Username.{Username}
+use Rattle.session.specs.declared.Asked.{Asked}
+use Rattle.session.specs.declared.Begun.{Begun}
+use Rattle.session.specs.declared.Agreed.{Agreed}
 use Rattle.session.specs.declared.Step.{Step}
 use Rattle.session.specs.declared.Step.the-variants.{Closed, OpenResponse, Message2, Message4, Open}
 use Rattle.session.specs.declared.Record.{Record}
@@ -24,24 +27,46 @@ stepNumber Open = 4
 
 -- a record whose name is longer than its sixteen bytes is in no step
 unfoldable pub inStep : Record → ℕ → Bool
-inStep s k = eqb (stepNumber (s .step)) k && leb (s .username .len) 16
+inStep s k = eqb (stepNumber (s .step)) k && leb (s .begun .username .len) 16
 
 unfoldable pub noKeys : Keys
 noKeys = record { sik = replicate 20 0; k1 = replicate 20 0; k2 = replicate 20 0 }
+
+-- before Begin, and before the open response
+unfoldable pub noneBegun : Begun
+noneBegun = record { console = 0; username = record { bytes = replicate 16 0; len = 0 } }
+
+unfoldable pub noneAgreed : Agreed
+noneAgreed = record { confidentiality = C.the-variants.None; integrity = I.the-variants.None }
 
 -- only zeros
 unfoldable pub closed : Record
 closed =
     record {
       step = Closed;
-      console = 0;
+      begun = noneBegun;
       system = 0;
-      username = record { bytes = replicate 16 0; len = 0 };
       rm = replicate 16 0;
       guid = replicate 16 0;
       keys = noKeys;
-      confidentiality = C.the-variants.None;
-      integrity = I.the-variants.None;
+      agreed = noneAgreed;
+    }
+
+-- what Begin fixes: the console's own id and the name
+unfoldable pub begunOf : Asked → Username → Begun
+begunOf asked username = record { console = asked .console; username = username }
+
+-- after Begin: what it fixed
+unfoldable pub begunWith : Begun → Record
+begunWith b =
+    record {
+      step = OpenResponse;
+      begun = b;
+      system = 0;
+      rm = replicate 16 0;
+      guid = replicate 16 0;
+      keys = noKeys;
+      agreed = noneAgreed;
     }
 
 -- the algorithms of the codes that are carried: 0 is none
@@ -53,34 +78,21 @@ abbrev pub integrityIf : Bool → I.Integrity
 integrityIf true = I.the-variants.None
 integrityIf false = I.the-variants.HmacSha1_96
 
--- after Begin: the console's own id and the name
-unfoldable pub begunWith : ℕ → List ℕ → Record
-begunWith own name =
-    record {
-      step = OpenResponse;
-      console = own;
-      system = 0;
-      username = stored name;
-      rm = replicate 16 0;
-      guid = replicate 16 0;
-      keys = noKeys;
-      confidentiality = C.the-variants.None;
-      integrity = I.the-variants.None;
-    }
+-- what a response agrees to
+unfoldable pub agreedOf : Response → Agreed
+agreedOf r = record { confidentiality = confidentialityIf (eqb (r .confidentiality) 0); integrity = integrityIf (eqb (r .integrity) 0) }
 
 -- after the open response: the system's id, the console's random number, the algorithms agreed
 unfoldable pub answered : Record → Response → List ℕ → Record
 answered s r rm =
     record {
       step = Message2;
-      console = s .console;
+      begun = s .begun;
       system = r .system;
-      username = s .username;
       rm = rm;
       guid = s .guid;
       keys = s .keys;
-      confidentiality = confidentialityIf (eqb (r .confidentiality) 0);
-      integrity = integrityIf (eqb (r .integrity) 0);
+      agreed = agreedOf r;
     }
 
 -- after message 2: the system's GUID, and the keys that the SIK gives
@@ -88,14 +100,12 @@ unfoldable pub keyed : Record → List ℕ → List ℕ → Record
 keyed s guid sik =
     record {
       step = Message4;
-      console = s .console;
+      begun = s .begun;
       system = s .system;
-      username = s .username;
       rm = s .rm;
       guid = guid;
       keys = keysOf sik;
-      confidentiality = s .confidentiality;
-      integrity = s .integrity;
+      agreed = s .agreed;
     }
 
 -- after message 4: only the step changes
@@ -103,12 +113,10 @@ unfoldable pub opened : Record → Record
 opened s =
     record {
       step = Open;
-      console = s .console;
+      begun = s .begun;
       system = s .system;
-      username = s .username;
       rm = s .rm;
       guid = s .guid;
       keys = s .keys;
-      confidentiality = s .confidentiality;
-      integrity = s .integrity;
+      agreed = s .agreed;
     }

@@ -16,6 +16,7 @@ use Rattle.keys.specs.Keys.{keysOf}
 use Rattle.keys.specs.declared.keys.Keys.{Keys}
 use Rattle.messages.specs.Auth.{isLevel}
 use Rattle.messages.specs.Block.{blockBytes}
+use Rattle.session.specs.Constants.{kgSize, valueSize}
 
 -- its session id, the highest level it allows, the codes of the algorithms it chose, RC, its GUID, the user's password, and its
 -- Kg, empty where it has none
@@ -38,7 +39,7 @@ pub record Regular (y : System) : Type 0 where
   pub confidentiality : y .confidentiality ≤ 1
   pub random : length (y .random) ≡ 16
   pub guid : length (y .guid) ≡ 16
-  pub kg : (length (y .kg) ≡ 0) ⊎ (length (y .kg) ≡ 20)
+  pub kg : (length (y .kg) ≡ 0) ⊎ (length (y .kg) ≡ kgSize)
 
 -- what it hears: in the request the console's id at 4; in message 1 RM at 8 and N, the role at 24, the name's length at 27 and
 -- the name from 28 on
@@ -92,7 +93,7 @@ pub record TakesThree (y : System) (request one three : List ℕ) : Type 0 where
 
 -- its check value, and message 4
 unfoldable pub valueIn : System → List ℕ → List ℕ
-valueIn y one = value4 hmacSha1 12 (sikIn y one) (rmIn one) (y .id) (y .guid)
+valueIn y one = value4 hmacSha1 valueSize (sikIn y one) (rmIn one) (y .id) (y .guid)
 
 unfoldable pub fourth : System → List ℕ → List ℕ → List ℕ → List ℕ
 fourth y request one three = headTo request three ++ valueIn y one

@@ -4,19 +4,24 @@ ghost use mathlib.Core.List.{[]};
 ghost use Rattle.messages.specs.Answers.{tested};
 ghost use Rattle.messages.specs.Promises.{verdict};
 ghost use Rattle.session.specs.Record.{opened};
-ghost use Rattle.session.specs.Steps.{readyFour, heardFour, valueFour, fourOf};
+ghost use Rattle.session.specs.Steps.{heardFour, valueFour, fourOf};
 ghost use Rattle.session.specs.Promise.{StepPromise};
 use crate::Record;
 use crate::Step;
-use crate::StepAnswer;
 use crate::Stepped;
+use crate::TAG_3;
 use crate::state;
 use messages::rakp::Test;
 use messages::rakp_4::RakpAnswer4;
 use messages::rakp_4::RakpMessage4;
+use refusal::Outcome;
 use refusal::Refusal;
 
-fn value(state: Record) -> [u8; 12]
+// How many bytes message 4's value has.
+const VALUE_LEN: usize = 12;
+
+// The value that message 4 ought to carry.
+fn compute_value(state: Record) -> [u8; VALUE_LEN]
     ensures { λ r. ⌜ r ≡ valueFour state ⌝ }
 {
     let k = state.keys;
@@ -26,43 +31,44 @@ fn value(state: Record) -> [u8; 12]
     keys::state::message_4_value(sik, rm, state.system, guid)
 }
 
-fn opened_from(state: Record) -> Record
+// The record of an open session: only the step changes.
+fn mark_open(state: Record) -> Record
     ensures { λ r. ⌜ r ≡ opened state ⌝ }
 {
-    let username = state.username;
+    let begun = state.begun;
     let rm = state.rm;
     let guid = state.guid;
     let keys = state.keys;
-    let confidentiality = state.confidentiality;
-    let integrity = state.integrity;
+    let agreed = state.agreed;
     Record {
         step: Step::Open,
-        console: state.console,
+        begun,
         system: state.system,
-        username,
         rm,
         guid,
         keys,
-        confidentiality,
-        integrity,
+        agreed,
     }
 }
 
-// The message's own tests, then tag and id, then the value over all of its bytes.
-fn heard(state: Record, message: &[u8]) -> Test
+// Message 4 by its own tests, then by tag and id, then by the value, over all of its bytes.
+fn check_message(state: Record, message: &[u8]) -> Test
     ensures { λ r. ⌜ tested r ≡ verdict (heardFour state (now (message .entry))) ⌝ }
 {
     match RakpMessage4::from_data(message) {
         RakpAnswer4::Refused(r) => Test::Refused(r),
         RakpAnswer4::Message(f) => {
-            if f.tag != 0x0a {
+            if f.tag != TAG_3 {
                 return Test::Refused(Refusal::MessageTagMismatch);
             }
-            if f.id != state.console {
+            let begun = state.begun;
+            if f.id != begun.console {
                 return Test::Refused(Refusal::SessionIdMismatch);
             }
-            let v = value(state);
-            if !octets::same(&message[8..], &v) {
+            let v = compute_value(state);
+            let p = f.value;
+            let at = p.at;
+            if !octets::same(&message[at..], &v) {
                 return Test::Refused(Refusal::InvalidIntegrityCheckValue);
             }
             Test::Passed
@@ -74,14 +80,14 @@ fn heard(state: Record, message: &[u8]) -> Test
 pub fn message_4(state: Record, message: &[u8]) -> Stepped
     ensures { λ r. ⌜ StepPromise (fourOf state (now (message .entry))) state [] r [] ⌝ }
 {
-    if !state::in_step(state, 3) {
-        return state::stopped(state, Refusal::WrongStep);
+    if !state::is_in_step(state, 3) {
+        return state::refuse(state, Refusal::WrongStep);
     }
-    match heard(state, message) {
-        Test::Refused(r) => state::stopped(state::closed(), r),
+    match check_message(state, message) {
+        Test::Refused(r) => state::refuse(state::make_closed(), r),
         Test::Passed => Stepped {
-            state: opened_from(state),
-            answer: StepAnswer::Done,
+            state: mark_open(state),
+            answer: Outcome::Done,
             len: 0,
         },
     }

@@ -2,8 +2,9 @@
 use frame::Confidentiality;
 use frame::Integrity;
 use keys::Keys;
+use messages::open_session::RequestedPrivilege;
 use messages::rakp_1::Username;
-use refusal::Refusal;
+use refusal::Outcome;
 
 mod checking;
 mod keying;
@@ -17,6 +18,16 @@ pub use request::begin;
 pub use response::open_response;
 pub use state::sub_state;
 
+// The tags of the three messages that a console sends; what answers one carries its tag.
+pub(crate) const OPEN_TAG: u8 = 0x00;
+
+pub(crate) const TAG_1: u8 = 0x0d;
+
+pub(crate) const TAG_3: u8 = 0x0a;
+
+// The role that message 1 asks for and that each code covers.
+pub(crate) const ROLE: u8 = 0x04;
+
 // Where an exchange stands: what it waits for next.
 pub enum Step {
     Closed,
@@ -26,27 +37,38 @@ pub enum Step {
     Open,
 }
 
-// What an exchange knows. Neither password nor Kg is in it.
-pub struct Record {
-    pub step: Step,
+// What Begin is asked for, beside the user's name: the console's own id, and the privilege level.
+pub struct Asked {
     pub console: u32,
-    pub system: u32,
+    pub level: RequestedPrivilege,
+}
+
+// What Begin fixed; every later step hands it on as it is.
+pub struct Begun {
+    pub console: u32,
     pub username: Username,
-    pub rm: [u8; 16],
-    pub guid: [u8; 16],
-    pub keys: Keys,
+}
+
+// The algorithms that the open response agreed to.
+pub struct Agreed {
     pub confidentiality: Confidentiality,
     pub integrity: Integrity,
 }
 
-pub enum StepAnswer {
-    Done,
-    Refused(Refusal),
+// What an exchange knows. Neither password nor Kg is in it.
+pub struct Record {
+    pub step: Step,
+    pub begun: Begun,
+    pub system: u32,
+    pub rm: [u8; 16],
+    pub guid: [u8; 16],
+    pub keys: Keys,
+    pub agreed: Agreed,
 }
 
-// What a step leaves: the record, the answer, and how many bytes it wrote.
+// What a step leaves: the record, its outcome, and how many bytes it wrote.
 pub struct Stepped {
     pub state: Record,
-    pub answer: StepAnswer,
+    pub answer: Outcome,
     pub len: usize,
 }

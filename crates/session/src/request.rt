@@ -1,22 +1,20 @@
 // Begin: the open session request.
 ghost use mathlib.Core.Path.{_≡_};
 ghost use Prim.Native.Nat.{ℕ, _≤_};
-ghost use mathlib.Core.List.{List};
 ghost use lib.ListN.{length};
-ghost use Rattle.refusal.specs.Table.{numberOf, valueOf};
 ghost use Rattle.refusal.specs.Order.{accept};
 ghost use Rattle.messages.specs.Answers.{tested};
-ghost use Rattle.messages.specs.Name.{stored};
-ghost use Rattle.session.specs.Record.{closed, begunWith};
+ghost use Rattle.session.specs.Constants.{requestSize};
+ghost use Rattle.session.specs.Record.{closed, begunOf, begunWith};
 ghost use Rattle.session.specs.Steps.{readyBegin, madeBegin, beginOf};
 ghost use Rattle.session.specs.Promise.{StepPromise};
+use crate::Asked;
+use crate::Begun;
+use crate::OPEN_TAG;
 use crate::Record;
 use crate::Step;
-use crate::StepAnswer;
 use crate::Stepped;
 use crate::state;
-use frame::Confidentiality;
-use frame::Integrity;
 use messages::auth::AuthenticationAlgorithm;
 use messages::auth::ConfidentialityAlgorithm;
 use messages::auth::IntegrityAlgorithm;
@@ -24,15 +22,20 @@ use messages::open_session::OpenSessionRequest;
 use messages::open_session::RequestedPrivilege;
 use messages::rakp::Test;
 use messages::rakp_1::Username;
+use refusal::Outcome;
 use refusal::Refusal;
 
+// How many bytes the request has.
+const REQUEST_LEN: usize = 32;
+
 // The tests on the id and the level.
-fn ready(own: u32, level: RequestedPrivilege) -> Test
-    ensures { λ r. ⌜ tested r ≡ readyBegin own level ⌝ }
+fn check_asked(asked: Asked) -> Test
+    ensures { λ r. ⌜ tested r ≡ readyBegin asked ⌝ }
 {
-    if own == 0 {
+    if asked.console == 0 {
         return Test::Refused(Refusal::ZeroRemoteConsoleSessionId);
     }
+    let level = asked.level;
     let RequestedPrivilege::Level(b) = level else {
         return Test::Passed;
     };
@@ -42,59 +45,71 @@ fn ready(own: u32, level: RequestedPrivilege) -> Test
     Test::Refused(Refusal::InvalidPrivilegeLevel(b))
 }
 
-fn begun_with(own: u32, username: Username) -> Record
-    ensures { λ r. ⌜ ((n : List ℕ) → username ≡ stored n → r ≡ begunWith own n) ⌝ }
+// What Begin fixes for the whole exchange.
+fn fix_begun(asked: Asked, username: Username) -> Begun
+    ensures { λ r. ⌜ r ≡ begunOf asked username ⌝ }
 {
-    Record {
-        step: Step::OpenResponse,
-        console: own,
-        system: 0,
+    Begun {
+        console: asked.console,
         username,
-        rm: [0u8; 16],
-        guid: [0u8; 16],
-        keys: state::no_keys(),
-        confidentiality: Confidentiality::None,
-        integrity: Integrity::None,
     }
 }
 
-fn write(own: u32, level: RequestedPrivilege, username: Username, out: &mut [u8]) -> Stepped
-    requires { ⌜ 32 ≤ length (now out) ⌝ }
-    ensures { λ r. ⌜ ((n : List ℕ) → username ≡ stored n → StepPromise (accept (madeBegin own level n)) closed (now (out .entry)) r (now (out .exit))) ⌝ }
+// The record that waits for the open response.
+fn start_record(begun: Begun) -> Record
+    ensures { λ r. ⌜ r ≡ begunWith begun ⌝ }
 {
+    Record {
+        step: Step::OpenResponse,
+        begun,
+        system: 0,
+        rm: [0u8; 16],
+        guid: [0u8; 16],
+        keys: state::zero_keys(),
+        agreed: state::agree_none(),
+    }
+}
+
+// Writes the request, beside the record of what was begun.
+fn write_request(asked: Asked, username: Username, out: &mut [u8]) -> Stepped
+    requires { ⌜ requestSize ≤ length (now out) ⌝ }
+    ensures { λ r. ⌜ StepPromise (accept (madeBegin asked username)) closed (now (out .entry)) r (now (out .exit)) ⌝ }
+{
+    let level = asked.level;
     let request = OpenSessionRequest {
-        tag: 0,
+        tag: OPEN_TAG,
         level,
-        console: own,
+        console: asked.console,
         authentication: AuthenticationAlgorithm::RakpHmacSha1,
         integrity: IntegrityAlgorithm::HmacSha1_96,
         confidentiality: ConfidentialityAlgorithm::AesCbc128,
     };
     request.write_data(out);
     Stepped {
-        state: begun_with(own, username),
-        answer: StepAnswer::Done,
-        len: 32,
+        state: start_record(fix_begun(asked, username)),
+        answer: Outcome::Done,
+        len: REQUEST_LEN,
     }
 }
 
-// Begins an exchange: the console's own id, the level asked for, and the user's name. Writes the open session request.
-pub fn begin(own: u32, level: RequestedPrivilege, name: &[u8], out: &mut [u8]) -> Stepped
-    ensures { λ r. ⌜ StepPromise (beginOf own level (now (name .entry)) (length (now (out .entry)))) closed (now (out .entry)) r (now (out .exit)) ⌝ }
+// Begins an exchange: what is asked for, and the user's name. Writes the open session request.
+pub fn begin(asked: Asked, name: &[u8], out: &mut [u8]) -> Stepped
+    ensures { λ r. ⌜ StepPromise (beginOf asked (now (name .entry)) (length (now (out .entry))))
+        closed (now (out .entry)) r (now (out .exit)) ⌝ }
 {
-    match ready(own, level) {
-        Test::Refused(r) => state::stopped(state::closed(), r),
+    match check_asked(asked) {
+        Test::Refused(r) => state::refuse(state::make_closed(), r),
         Test::Passed => {
             let named = Username::new(name);
             let answer = named.answer;
             match answer {
-                Test::Refused(r) => state::stopped(state::closed(), r),
+                Test::Refused(r) => state::refuse(state::make_closed(), r),
                 Test::Passed => {
-                    if out.len() < 32 {
-                        return state::stopped(state::closed(), Refusal::OutputTooShort);
+                    if out.len() < REQUEST_LEN {
+                        return state::refuse(state::make_closed(), Refusal::OutputTooShort);
                     }
                     let username = named.username;
-                    write(own, level, username, out)
+                    write_request(asked, username, out)
                 }
             }
         }

@@ -1,18 +1,22 @@
 // The open response, answered by message 1.
 ghost use mathlib.Core.Path.{_≡_};
-ghost use Prim.Native.Nat.{_+_, _≤_};
+ghost use Prim.Native.Nat.{_≤_};
 ghost use lib.Dec.{eqb};
 ghost use lib.ListN.{length};
 ghost use Rattle.refusal.specs.Order.{accept};
 ghost use Rattle.messages.specs.Answers.{tested, toldOpen};
 ghost use Rattle.messages.specs.OpenSession.{responseNumbers};
-ghost use Rattle.session.specs.Record.{answered, confidentialityIf, integrityIf};
+ghost use Rattle.session.specs.Constants.{oneSize};
+ghost use Rattle.session.specs.Record.{agreedOf, answered, confidentialityIf, integrityIf};
 ghost use Rattle.session.specs.Steps.{carried, readyOpen, heardOpen, madeOpen, openOf};
 ghost use Rattle.session.specs.Promise.{StepPromise};
+use crate::Agreed;
+use crate::OPEN_TAG;
+use crate::ROLE;
 use crate::Record;
 use crate::Step;
-use crate::StepAnswer;
 use crate::Stepped;
+use crate::TAG_1;
 use crate::state;
 use frame::Confidentiality;
 use frame::Integrity;
@@ -21,17 +25,22 @@ use messages::open_session::OpenSessionResponse;
 use messages::rakp::Test;
 use messages::rakp_1::RakpMessage1;
 use messages::rakp_1::Username;
+use refusal::Outcome;
 use refusal::Refusal;
 
+// How many bytes message 1 has before the name.
+const UP_TO_NAME: usize = 28;
+
 // What is tested before the message is looked at.
-fn ready(state: Record, room: usize) -> Test
+fn check_call(state: Record, room: usize) -> Test
     ensures { λ r. ⌜ tested r ≡ readyOpen state room ⌝ }
 {
-    if !state::in_step(state, 1) {
+    if !state::is_in_step(state, 1) {
         return Test::Refused(Refusal::WrongStep);
     }
-    let u = state.username;
-    if room < 28 + u.len {
+    let begun = state.begun;
+    let u = begun.username;
+    if room < UP_TO_NAME + u.len {
         return Test::Refused(Refusal::OutputTooShort);
     }
     Test::Passed
@@ -53,17 +62,18 @@ fn is_carried(r: OpenSessionResponse) -> bool
     c.code() <= 1
 }
 
-// The message's own tests, then tag, id and algorithms.
-fn heard(state: Record, message: &[u8]) -> OpenSessionAnswer
+// The response by its own tests, then by tag, id and algorithms.
+fn read_response(state: Record, message: &[u8]) -> OpenSessionAnswer
     ensures { λ r. ⌜ toldOpen r ≡ heardOpen state (now (message .entry)) ⌝ }
 {
     match OpenSessionResponse::from_data(message) {
         OpenSessionAnswer::Refused(r) => OpenSessionAnswer::Refused(r),
         OpenSessionAnswer::Response(r) => {
-            if r.tag != 0 {
+            if r.tag != OPEN_TAG {
                 return OpenSessionAnswer::Refused(Refusal::MessageTagMismatch);
             }
-            if r.console != state.console {
+            let begun = state.begun;
+            if r.console != begun.console {
                 return OpenSessionAnswer::Refused(Refusal::SessionIdMismatch);
             }
             if !is_carried(r) {
@@ -74,7 +84,8 @@ fn heard(state: Record, message: &[u8]) -> OpenSessionAnswer
     }
 }
 
-fn confidentiality_of(code: u8) -> Confidentiality
+// The algorithms of the codes that are carried: 0 is none.
+fn decode_confidentiality(code: u8) -> Confidentiality
     ensures { λ r. ⌜ r ≡ confidentialityIf (eqb code 0) ⌝ }
 {
     if code == 0 {
@@ -83,7 +94,7 @@ fn confidentiality_of(code: u8) -> Confidentiality
     Confidentiality::AesCbc128
 }
 
-fn integrity_of(code: u8) -> Integrity
+fn decode_integrity(code: u8) -> Integrity
     ensures { λ r. ⌜ r ≡ integrityIf (eqb code 0) ⌝ }
 {
     if code == 0 {
@@ -92,52 +103,63 @@ fn integrity_of(code: u8) -> Integrity
     Integrity::HmacSha1_96
 }
 
-fn answered_by(state: Record, r: OpenSessionResponse, rm: [u8; 16]) -> Record
-    ensures { λ z. ⌜ z ≡ answered state (responseNumbers r) rm ⌝ }
+// What the response agrees to.
+fn agree(r: OpenSessionResponse) -> Agreed
+    ensures { λ z. ⌜ z ≡ agreedOf (responseNumbers r) ⌝ }
 {
-    let username = state.username;
-    let guid = state.guid;
-    let keys = state.keys;
     let i = r.integrity;
     let c = r.confidentiality;
-    Record {
-        step: Step::Message2,
-        console: state.console,
-        system: r.system,
-        username,
-        rm,
-        guid,
-        keys,
-        confidentiality: confidentiality_of(c.code()),
-        integrity: integrity_of(i.code()),
+    Agreed {
+        confidentiality: decode_confidentiality(c.code()),
+        integrity: decode_integrity(i.code()),
     }
 }
 
-// How long the name is; it has sixteen bytes, and so has the random number.
-fn named(u: Username, rm: [u8; 16]) -> usize
+// The record with the system's id, the console's random number, and what was agreed.
+fn add_response(state: Record, r: OpenSessionResponse, rm: [u8; 16]) -> Record
+    ensures { λ z. ⌜ z ≡ answered state (responseNumbers r) rm ⌝ }
+{
+    let begun = state.begun;
+    let guid = state.guid;
+    let keys = state.keys;
+    Record {
+        step: Step::Message2,
+        begun,
+        system: r.system,
+        rm,
+        guid,
+        keys,
+        agreed: agree(r),
+    }
+}
+
+// The name's length. What else it promises, that both arrays have sixteen bytes, a caller's proof needs.
+fn measure_name(u: Username, rm: [u8; 16]) -> usize
     ensures { λ r. ⌜ (r ≡ u .len) × (length (u .bytes) ≡ 16) × (length rm ≡ 16) ⌝ }
 {
     u.len
 }
 
-fn write(state: Record, r: OpenSessionResponse, rm: [u8; 16], out: &mut [u8]) -> Stepped
-    requires { ⌜ (28 + state .username .len ≤ length (now out)) × (state .username .len ≤ 16) ⌝ }
+// Writes message 1, beside the record with the response.
+fn write_message_1(state: Record, r: OpenSessionResponse, rm: [u8; 16], out: &mut [u8]) -> Stepped
+    requires { ⌜ (oneSize (state .begun .username .len) ≤ length (now out)) × (state .begun .username .len ≤ 16) ⌝ }
     ensures { λ z. ⌜ StepPromise (accept (madeOpen state rm (responseNumbers r))) state (now (out .entry)) z (now (out .exit)) ⌝ }
 {
-    let username = state.username;
-    let n = named(username, rm);
+    let begun = state.begun;
+    let username = begun.username;
+    let n = measure_name(username, rm);
     let message = RakpMessage1 {
-        tag: 0x0d,
+        tag: TAG_1,
         system: r.system,
         random: rm,
-        role: 0x04,
+        role: ROLE,
         username,
     };
     message.write(out);
     Stepped {
-        state: answered_by(state, r, rm),
-        answer: StepAnswer::Done,
-        len: 28 + n,
+        state: add_response(state, r, rm),
+        answer: Outcome::Done,
+        len: UP_TO_NAME + n,
     }
 }
 
@@ -145,11 +167,11 @@ fn write(state: Record, r: OpenSessionResponse, rm: [u8; 16], out: &mut [u8]) ->
 pub fn open_response(state: Record, message: &[u8], rm: [u8; 16], out: &mut [u8]) -> Stepped
     ensures { λ r. ⌜ StepPromise (openOf state (now (message .entry)) rm (length (now (out .entry)))) state (now (out .entry)) r (now (out .exit)) ⌝ }
 {
-    match ready(state, out.len()) {
-        Test::Refused(r) => state::stopped(state, r),
-        Test::Passed => match heard(state, message) {
-            OpenSessionAnswer::Refused(r) => state::stopped(state::closed(), r),
-            OpenSessionAnswer::Response(r) => write(state, r, rm, out),
+    match check_call(state, out.len()) {
+        Test::Refused(r) => state::refuse(state, r),
+        Test::Passed => match read_response(state, message) {
+            OpenSessionAnswer::Refused(r) => state::refuse(state::make_closed(), r),
+            OpenSessionAnswer::Response(r) => write_message_1(state, r, rm, out),
         },
     }
 }

@@ -1,20 +1,23 @@
 // Records: a closed one, in which step one is, and the session that an open one becomes.
 ghost use mathlib.Core.Path.{_≡_};
-ghost use Rattle.session.specs.Record.{stepNumber, inStep, noKeys, closed};
-ghost use Rattle.session.specs.Promise.{SessionPromise};
-ghost use Rattle.session.specs.Made.{stoppedAt};
+ghost use Rattle.session.specs.Record.{stepNumber, inStep, noKeys, noneAgreed, closed};
+ghost use Rattle.session.specs.Promise.{SessionPromise, sessionWith};
+ghost use Rattle.session.specs.Parts.{refusedAt};
+use crate::Agreed;
+use crate::Begun;
 use crate::Record;
 use crate::Step;
-use crate::StepAnswer;
 use crate::Stepped;
 use frame::Confidentiality;
 use frame::Integrity;
 use frame::SubState;
 use keys::Keys;
 use messages::rakp_1::Username;
+use refusal::Outcome;
 use refusal::Refusal;
 
-fn number(s: Step) -> u8
+// The number of each step, 0 where none is waited for.
+fn number_step(s: Step) -> u8
     ensures { λ r. ⌜ r ≡ stepNumber s ⌝ }
 {
     match s {
@@ -26,18 +29,21 @@ fn number(s: Step) -> u8
     }
 }
 
-pub(crate) fn in_step(state: Record, k: u8) -> bool
+// Whether a record is in this step; one whose name is longer than its sixteen bytes is in none.
+pub(crate) fn is_in_step(state: Record, k: u8) -> bool
     ensures { λ r. ⌜ r ≡ inStep state k ⌝ }
 {
     let s = state.step;
-    if number(s) != k {
+    if number_step(s) != k {
         return false;
     }
-    let u = state.username;
+    let begun = state.begun;
+    let u = begun.username;
     u.len <= 16
 }
 
-pub(crate) fn no_keys() -> Keys
+// No keys, before message 2.
+pub(crate) fn zero_keys() -> Keys
     ensures { λ r. ⌜ r ≡ noKeys ⌝ }
 {
     Keys {
@@ -47,66 +53,81 @@ pub(crate) fn no_keys() -> Keys
     }
 }
 
-// A closed record holds only zeros.
-pub(crate) fn closed() -> Record
-    ensures { λ r. ⌜ r ≡ closed ⌝ }
+// No algorithm, before the open response.
+pub(crate) fn agree_none() -> Agreed
+    ensures { λ r. ⌜ r ≡ noneAgreed ⌝ }
 {
-    Record {
-        step: Step::Closed,
-        console: 0,
-        system: 0,
-        username: Username {
-            bytes: [0u8; 16],
-            len: 0,
-        },
-        rm: [0u8; 16],
-        guid: [0u8; 16],
-        keys: no_keys(),
+    Agreed {
         confidentiality: Confidentiality::None,
         integrity: Integrity::None,
     }
 }
 
+// A closed record holds only zeros.
+pub(crate) fn make_closed() -> Record
+    ensures { λ r. ⌜ r ≡ closed ⌝ }
+{
+    Record {
+        step: Step::Closed,
+        begun: Begun {
+            console: 0,
+            username: Username {
+                bytes: [0u8; 16],
+                len: 0,
+            },
+        },
+        system: 0,
+        rm: [0u8; 16],
+        guid: [0u8; 16],
+        keys: zero_keys(),
+        agreed: agree_none(),
+    }
+}
+
 // A refusal that wrote nothing, beside the record that it leaves.
-pub(crate) fn stopped(state: Record, r: Refusal) -> Stepped
-    ensures { λ z. ⌜ z ≡ stoppedAt state r ⌝ }
+pub(crate) fn refuse(state: Record, r: Refusal) -> Stepped
+    ensures { λ z. ⌜ z ≡ refusedAt state r ⌝ }
 {
     Stepped {
         state,
-        answer: StepAnswer::Refused(r),
+        answer: Outcome::Refused(r),
         len: 0,
     }
 }
 
 // The session that frames are read and written with, and whether there is one.
 pub struct Established {
-    pub answer: StepAnswer,
+    pub answer: Outcome,
     pub session: SubState,
+}
+
+// The session under keys and with the algorithms agreed.
+fn make_session(keys: Keys, agreed: Agreed) -> SubState
+    ensures { λ r. ⌜ r ≡ sessionWith keys agreed ⌝ }
+{
+    let confidentiality = agreed.confidentiality;
+    let integrity = agreed.integrity;
+    SubState {
+        keys,
+        confidentiality,
+        integrity,
+    }
 }
 
 // What an open record becomes; any other is refused.
 pub fn sub_state(state: Record) -> Established
     ensures { λ r. ⌜ SessionPromise state r ⌝ }
 {
-    if !in_step(state, 4) {
+    if !is_in_step(state, 4) {
         return Established {
-            answer: StepAnswer::Refused(Refusal::WrongStep),
-            session: SubState {
-                keys: no_keys(),
-                confidentiality: Confidentiality::None,
-                integrity: Integrity::None,
-            },
+            answer: Outcome::Refused(Refusal::WrongStep),
+            session: make_session(zero_keys(), agree_none()),
         };
     }
     let keys = state.keys;
-    let confidentiality = state.confidentiality;
-    let integrity = state.integrity;
+    let agreed = state.agreed;
     Established {
-        answer: StepAnswer::Done,
-        session: SubState {
-            keys,
-            confidentiality,
-            integrity,
-        },
+        answer: Outcome::Done,
+        session: make_session(keys, agreed),
     }
 }

@@ -6,7 +6,9 @@ use Rattle.session.proofs.keying.decline.Statement.{statement}
 use Rattle.session.proofs.keying.decline.Tie as tie
 
 returns : tie.Need-returns
-returns c = declined (c .before .before .before .before .before .before .args .state) _ (c .before .before .before .before .before .before .args .out .now) _ _ (c .closed .ensures) (c .before .before .before .decline .ensures) (omega arith)
+returns c =
+    let a = c .before .before .before .before .before .before .args in
+    declined (a .state) _ (a .out .now) _ _ (c .make-closed .ensures) (c .before .before .before .decline .ensures) (omega arith)
 
 pub decline-spec : {M : Type 1} → statement M
 decline-spec = tie.close (tie.spec (λ c κs. search needs) (λ c κs. search needs) (λ c. search needs) returns)

@@ -12,34 +12,43 @@ use borrow.Author.Needs.{needs}
 use Rattle.session.proofs.response.open_response.Statement.{statement}
 use Rattle.session.proofs.response.open_response.Tie as tie
 
-write-requires : tie.Need-write-requires
-write-requires c κs =
+write-message-1-requires : tie.Need-write-message-1-requires
+write-message-1-requires c κs =
     let a = c .before .before .before .before .before .before .before .before .before .before .args in
-    let k = open-known (a .state) (length (a .out .now)) (test-passed _ _ (c .before .before .before .before .before .before .before .ready .ensures) (c .before .before .before .before .before .enum-told .given .1)) in
+    let call = c .before .before .before .before .before .before .before .check-call .ensures in
+    let t = test-passed _ _ call (c .before .before .before .before .before .enum-told .given .1) in
+    let k = open-known (a .state) (length (a .out .now)) t in
     (k .1, k .0)
 
 returns : tie.Need-returns
 unfolding openOf
 returns c =
     let a = c .before .before .before .before .before .before .before .args in
-    let e = test-refused _ _ (c .before .before .r .given .0 .0) (c .before .before .before .before .ready .ensures) (c .before .before .r .given .1) in
-    kept _ (a .state) (a .out .now) (c .before .before .r .given .0 .0) _ (then-refuse _ _ _ _ e) (ready-open-keeps (a .state) _ _ _ e) (c .stopped .ensures)
+    let r = c .before .before .r .given in
+    let e = test-refused _ _ (r .0 .0) (c .before .before .before .before .check-call .ensures) (r .1) in
+    let k = ready-open-keeps (a .state) _ _ _ e in
+    kept _ (a .state) (a .out .now) (r .0 .0) _ (then-refuse _ _ _ _ e) k (c .refuse .ensures)
 
 returns-2 : tie.Need-returns-2
 unfolding openOf
 returns-2 c =
     let a = c .before .before .before .before .before .before .before .before .before .before .before .args in
-    let t = test-passed _ _ (c .before .before .before .before .before .before .before .before .ready .ensures) (c .before .before .before .before .before .before .enum-told .given .1) in
-    let u = sym (c .before .before .before .before .before .heard .ensures) ∙ ap toldOpen (c .before .before .before .r2 .given .1) in
-    shut _ (a .state) (a .out .now) (c .before .before .before .r2 .given .0 .0) _ _ (second-stop _ _ _ 0 _ _ t u) (heard-open-shuts (a .state) (a .message .now) _ _ u) (c .before .closed .ensures) (c .stopped2 .ensures)
+    let r = c .before .before .before .r2 .given in
+    let call = c .before .before .before .before .before .before .before .before .check-call .ensures in
+    let t = test-passed _ _ call (c .before .before .before .before .before .before .enum-told .given .1) in
+    let u = sym (c .before .before .before .before .before .read-response .ensures) ∙ ap toldOpen (r .1) in
+    let k = heard-open-shuts (a .state) (a .message .now) _ _ u in
+    shut _ (a .state) (a .out .now) (r .0 .0) _ _ (second-stop _ _ _ 0 _ _ t u) k (c .before .make-closed .ensures) (c .refuse2 .ensures)
 
 returns-3 : tie.Need-returns-3
 unfolding openOf
 returns-3 c =
     let a = c .before .before .before .before .before .before .before .before .before .before .before .before .before .args in
-    let t = test-passed _ _ (c .before .before .before .before .before .before .before .before .before .before .ready .ensures) (c .before .before .before .before .before .before .before .before .enum-told .given .1) in
-    let u = sym (c .before .before .before .before .before .before .before .heard .ensures) ∙ ap toldOpen (c .before .before .before .before .before .r3 .given .1) in
-    promise-as _ _ (a .state) (a .out .now) _ _ (second-go _ _ _ 0 _ t u) (c .before .before .write .ensures)
+    let call = c .before .before .before .before .before .before .before .before .before .before .check-call .ensures in
+    let t = test-passed _ _ call (c .before .before .before .before .before .before .before .before .enum-told .given .1) in
+    let read = c .before .before .before .before .before .before .before .read-response .ensures in
+    let u = sym read ∙ ap toldOpen (c .before .before .before .before .before .r3 .given .1) in
+    promise-as _ _ (a .state) (a .out .now) _ _ (second-go _ _ _ 0 _ t u) (c .before .before .write-message-1 .ensures)
 
 pub open-response-spec : {M : Type 1} → statement M
 open-response-spec =
@@ -54,7 +63,7 @@ open-response-spec =
     (λ c κs. search needs)
     (λ c κs. search needs)
     (λ c. search needs)
-    write-requires
+    write-message-1-requires
     returns
     returns-2
     (λ c. search needs)

@@ -1,13 +1,11 @@
 // The four calls on a step record, each with the places of its fields in a line.
-use crate::numbers::level_of;
-use crate::numbers::word_of;
-use crate::walk::Span;
-use crate::walk::block_of;
-use crate::walk::span_of;
-use crate::walk::within;
+use cases::Span;
+use cases::pick_part;
+use cases::read_bytes;
 use messages::open_session::RequestedPrivilege;
+use refusal::Outcome;
+use session::Asked;
 use session::Record;
-use session::StepAnswer;
 use session::Stepped;
 
 // What a call leaves. One with a bad field is made all the same, with what it has: nothing is told of its line.
@@ -16,14 +14,54 @@ pub struct Called {
     pub step: Stepped,
 }
 
+pub enum Call {
+    Begin,
+    Open,
+    M2,
+    M4,
+    Bad,
+}
+
+// A call, and which fields of the line it takes, in the order of its arguments.
+pub struct Plan {
+    pub call: Call,
+    pub a: usize,
+    pub b: usize,
+    pub c: usize,
+}
+
 // A closed record: what a Begin leaves that is refused.
-pub fn closed() -> Record {
+pub fn make_closed() -> Record {
     let mut room = [0u8; 1];
-    let s = session::begin(0, RequestedPrivilege::None, b"", &mut room);
+    let asked = Asked {
+        console: 0,
+        level: RequestedPrivilege::None,
+    };
+    let s = session::begin(asked, b"", &mut room);
     s.state
 }
 
-pub fn begin_call(
+struct Level {
+    bad: bool,
+    level: RequestedPrivilege,
+}
+
+// A privilege level, or `none`.
+fn read_level(line: &[u8], k: usize) -> Level {
+    if octets::same(cases::pick_field(line, k), b"none") {
+        return Level {
+            bad: false,
+            level: RequestedPrivilege::None,
+        };
+    }
+    let n = cases::read_decimal(line, k, 255);
+    Level {
+        bad: n.bad,
+        level: RequestedPrivilege::Level((n.n % 256) as u8),
+    }
+}
+
+fn call_begin(
     line: &[u8],
     own: usize,
     level: usize,
@@ -31,17 +69,21 @@ pub fn begin_call(
     buf: &mut [u8],
     room: &mut [u8],
 ) -> Called {
-    let own = word_of(line, own);
-    let asked = level_of(line, level);
-    let name = span_of(line, name, buf, 0);
-    let level = asked.level;
+    let own = cases::read_id(line, own);
+    let level = read_level(line, level);
+    let name = read_bytes(line, name, buf, 0);
+    let l = level.level;
+    let asked = Asked {
+        console: own.n,
+        level: l,
+    };
     Called {
-        bad: own.bad | asked.bad | name.bad,
-        step: session::begin(own.n, level, within(buf, name), room),
+        bad: own.bad | level.bad | name.bad,
+        step: session::begin(asked, pick_part(buf, 0, name.to), room),
     }
 }
 
-pub fn open_call(
+fn call_open(
     line: &[u8],
     opened: usize,
     rm: usize,
@@ -49,27 +91,27 @@ pub fn open_call(
     buf: &mut [u8],
     room: &mut [u8],
 ) -> Called {
-    let opened = span_of(line, opened, buf, 0);
-    let rm = block_of(line, rm);
+    let opened = read_bytes(line, opened, buf, 0);
+    let rm = cases::read_block(line, rm);
     let b = rm.bytes;
     Called {
         bad: opened.bad | rm.bad,
-        step: session::open_response(state, within(buf, opened), b, room),
+        step: session::open_response(state, pick_part(buf, 0, opened.to), b, room),
     }
 }
 
 // What Message 2 is taken with.
-pub struct Texts {
+struct Texts {
     bad: bool,
     kg: Span,
     password: Span,
     message: Span,
 }
 
-pub fn texts_of(line: &[u8], kg: usize, password: usize, message: usize, buf: &mut [u8]) -> Texts {
-    let kg = span_of(line, kg, buf, 0);
-    let password = span_of(line, password, buf, kg.to);
-    let message = span_of(line, message, buf, password.to);
+fn read_texts(line: &[u8], kg: usize, password: usize, message: usize, buf: &mut [u8]) -> Texts {
+    let kg = read_bytes(line, kg, buf, 0);
+    let password = read_bytes(line, password, buf, kg.to);
+    let message = read_bytes(line, message, buf, password.to);
     Texts {
         bad: kg.bad | password.bad | message.bad,
         kg,
@@ -78,32 +120,48 @@ pub fn texts_of(line: &[u8], kg: usize, password: usize, message: usize, buf: &m
     }
 }
 
-pub fn m2_call(t: Texts, state: Record, buf: &[u8], room: &mut [u8]) -> Called {
-    let kg = within(buf, t.kg);
-    let password = within(buf, t.password);
-    let message = within(buf, t.message);
+fn pick_span(buf: &[u8], p: Span) -> &[u8] {
+    pick_part(buf, p.from, p.to)
+}
+
+fn call_m2(t: Texts, state: Record, buf: &[u8], room: &mut [u8]) -> Called {
+    let kg = pick_span(buf, t.kg);
+    let password = pick_span(buf, t.password);
+    let message = pick_span(buf, t.message);
     Called {
         bad: t.bad,
         step: session::message_2(state, kg, password, message, room),
     }
 }
 
-pub fn m4_call(line: &[u8], message: usize, state: Record, buf: &mut [u8]) -> Called {
-    let message = span_of(line, message, buf, 0);
+fn call_m4(line: &[u8], message: usize, state: Record, buf: &mut [u8]) -> Called {
+    let message = read_bytes(line, message, buf, 0);
     Called {
         bad: message.bad,
-        step: session::message_4(state, within(buf, message)),
+        step: session::message_4(state, pick_part(buf, 0, message.to)),
     }
 }
 
 // A call that there is not.
-pub fn bad_call(state: Record) -> Called {
+fn call_none(state: Record) -> Called {
     Called {
         bad: true,
         step: Stepped {
             state,
-            answer: StepAnswer::Done,
+            answer: Outcome::Done,
             len: 0,
         },
+    }
+}
+
+// Makes a call with the fields that it takes.
+pub fn make_call(line: &[u8], p: Plan, state: Record, buf: &mut [u8], room: &mut [u8]) -> Called {
+    let call = p.call;
+    match call {
+        Call::Begin => call_begin(line, p.a, p.b, p.c, buf, room),
+        Call::Open => call_open(line, p.a, p.b, state, buf, room),
+        Call::M2 => call_m2(read_texts(line, p.a, p.b, p.c, buf), state, buf, room),
+        Call::M4 => call_m4(line, p.a, state, buf),
+        Call::Bad => call_none(state),
     }
 }

@@ -1,16 +1,14 @@
 // The cases of the cipher and of the session's keys.
-use crate::say;
-use crate::walk::block_of;
-use crate::walk::part;
-use crate::walk::part_mut;
-use crate::walk::sik_of;
-use crate::walk::span_of;
+use crate::lent::lend_part;
+use crate::say::say_keys;
 use aes::Aes128;
-use cbc::Ciphered;
+use cases::pick_part;
+use cases::read_block;
 use keys::Keys;
+use refusal::Outcome;
 use text::Cursor;
 
-fn one_block(key: [u8; 16], b: [u8; 16], decrypts: bool) -> [u8; 16] {
+fn cipher_block(key: [u8; 16], b: [u8; 16], decrypts: bool) -> [u8; 16] {
     let k = Aes128::new(key);
     if decrypts {
         k.decrypt_block(b)
@@ -20,19 +18,19 @@ fn one_block(key: [u8; 16], b: [u8; 16], decrypts: bool) -> [u8; 16] {
 }
 
 // `encrypt KEY BLOCK` and `decrypt KEY BLOCK`.
-pub fn block_case(line: &[u8], decrypts: bool, out: &mut [u8], c: Cursor) -> Cursor {
-    let key = block_of(line, 1);
-    let b = block_of(line, 2);
+pub fn tell_block(line: &[u8], decrypts: bool, out: &mut [u8], c: Cursor) -> Cursor {
+    let key = read_block(line, 1);
+    let b = read_block(line, 2);
     if key.bad | b.bad {
         return c;
     }
     let k = key.bytes;
     let x = b.bytes;
-    let y = one_block(k, x, decrypts);
-    say::labelled(out, c, b"ok ", &y)
+    let y = cipher_block(k, x, decrypts);
+    cases::say_bytes(out, c, b"ok ", &y)
 }
 
-fn blocks(key: [u8; 16], iv: [u8; 16], s: &mut [u8], decrypts: bool) -> Ciphered {
+fn cipher_blocks(key: [u8; 16], iv: [u8; 16], s: &mut [u8], decrypts: bool) -> Outcome {
     if decrypts {
         cbc::cbc_decrypt(key, iv, s)
     } else {
@@ -40,36 +38,36 @@ fn blocks(key: [u8; 16], iv: [u8; 16], s: &mut [u8], decrypts: bool) -> Ciphered
     }
 }
 
-fn told(out: &mut [u8], c: Cursor, r: Ciphered, s: &[u8]) -> Cursor {
+fn say_ciphered(out: &mut [u8], c: Cursor, r: Outcome, s: &[u8]) -> Cursor {
     match r {
-        Ciphered::Done => { say::labelled(out, c, b"ok ", s) }
-        Ciphered::Refused(n) => say::refused(out, c, n),
+        Outcome::Done => cases::say_bytes(out, c, b"ok ", s),
+        Outcome::Refused(n) => cases::say_refusal(out, c, n),
     }
 }
 
 // `cbc-encrypt KEY IV DATA` and `cbc-decrypt KEY IV DATA`.
-pub fn cbc_case(line: &[u8], decrypts: bool, buf: &mut [u8], out: &mut [u8], c: Cursor) -> Cursor {
-    let key = block_of(line, 1);
-    let iv = block_of(line, 2);
-    let data = span_of(line, 3, buf, 0);
+pub fn tell_cbc(line: &[u8], decrypts: bool, buf: &mut [u8], out: &mut [u8], c: Cursor) -> Cursor {
+    let key = read_block(line, 1);
+    let iv = read_block(line, 2);
+    let data = cases::read_bytes(line, 3, buf, 0);
     if key.bad | iv.bad | data.bad {
         return c;
     }
     let k = key.bytes;
     let v = iv.bytes;
     let n = data.to;
-    let r = blocks(k, v, part_mut(buf, n), decrypts);
-    told(out, c, r, part(buf, 0, n))
+    let r = cipher_blocks(k, v, lend_part(buf, n), decrypts);
+    say_ciphered(out, c, r, pick_part(buf, 0, n))
 }
 
 // `keys SIK`.
-pub fn keys_case(line: &[u8], out: &mut [u8], c: Cursor) -> Cursor {
-    let sik = sik_of(line, 1);
+pub fn tell_keys(line: &[u8], out: &mut [u8], c: Cursor) -> Cursor {
+    let sik = cases::read_sik(line, 1);
     if sik.bad {
         return c;
     }
     let s = sik.bytes;
     let k = Keys::from_sik(s);
     let c = text::add(out, c, b"ok ");
-    say::session_keys(out, c, k)
+    say_keys(out, c, k)
 }

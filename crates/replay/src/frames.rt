@@ -1,17 +1,10 @@
 // The cases of packets and datagrams.
-use crate::lent::lend;
-use crate::lent::spilled;
-use crate::numbers::count_of;
-use crate::numbers::room_of;
-use crate::numbers::word_of;
-use crate::say;
-use crate::walk::Span;
-use crate::walk::block_of;
-use crate::walk::part;
-use crate::walk::part_mut;
-use crate::walk::sik_of;
-use crate::walk::span_of;
-use crate::walk::within;
+use crate::lent::lend_part;
+use crate::lent::lend_room;
+use crate::say::say_blocks;
+use cases::pick_part;
+use cases::read_bytes;
+use cases::read_decimal;
 use frame::Confidentiality;
 use frame::Integrity;
 use frame::PayloadType;
@@ -20,9 +13,10 @@ use frame::Reading;
 use frame::SubState;
 use frame::Written;
 use keys::Keys;
+use refusal::Refusal;
 use text::Cursor;
 
-fn confidentiality(n: u32) -> Confidentiality {
+fn name_confidentiality(n: u32) -> Confidentiality {
     if n == 0 {
         Confidentiality::None
     } else {
@@ -30,7 +24,7 @@ fn confidentiality(n: u32) -> Confidentiality {
     }
 }
 
-fn integrity(n: u32) -> Integrity {
+fn name_integrity(n: u32) -> Integrity {
     if n == 0 {
         Integrity::None
     } else {
@@ -45,36 +39,42 @@ struct Given {
     session: SubState,
 }
 
-fn session_from(bad: bool, conf: u32, integ: u32, sik: [u8; 20]) -> Given {
+fn make_session(bad: bool, conf: u32, integ: u32, sik: [u8; 20]) -> Given {
     Given {
         bad,
         encrypts: conf == 1,
         session: SubState {
             keys: Keys::from_sik(sik),
-            confidentiality: confidentiality(conf),
-            integrity: integrity(integ),
+            confidentiality: name_confidentiality(conf),
+            integrity: name_integrity(integ),
         },
     }
 }
 
-fn session_of(line: &[u8]) -> Given {
-    let c = count_of(line, 1, 1);
-    let i = count_of(line, 2, 1);
-    let sik = sik_of(line, 3);
+fn read_session(line: &[u8]) -> Given {
+    let c = read_decimal(line, 1, 1);
+    let i = read_decimal(line, 2, 1);
+    let sik = cases::read_sik(line, 3);
     let k = sik.bytes;
-    session_from(c.bad | i.bad | sik.bad, c.n, i.n, k)
+    make_session(c.bad | i.bad | sik.bad, c.n, i.n, k)
 }
 
 // What the buffer holds after the call, beside what was lent.
-fn kept(out: &mut [u8], c: Cursor, lent: &[u8], left: &[u8]) -> Cursor {
+fn say_buffer(out: &mut [u8], c: Cursor, lent: &[u8], left: &[u8]) -> Cursor {
     if octets::same(lent, left) {
         return text::add(out, c, b" buf same");
     }
-    say::labelled(out, c, b" buf ", left)
+    cases::say_bytes(out, c, b" buf ", left)
 }
 
-// `type T id I seq S payload HEX`, where the packet was accepted.
-fn accepted(out: &mut [u8], c: Cursor, a: Reading, packet: &[u8], encrypts: bool) -> Cursor {
+// ` id I seq S`.
+fn say_ids(out: &mut [u8], c: Cursor, id: u32, seq: u32) -> Cursor {
+    let c = cases::say_id(out, c, b" id ", id);
+    cases::say_id(out, c, b" seq ", seq)
+}
+
+// `ok type T id I seq S payload HEX`, where the packet was accepted.
+fn say_packet(out: &mut [u8], c: Cursor, a: Reading, packet: &[u8], encrypts: bool) -> Cursor {
     let Reading::Accepted {
         ty,
         session_id,
@@ -84,45 +84,39 @@ fn accepted(out: &mut [u8], c: Cursor, a: Reading, packet: &[u8], encrypts: bool
     else {
         return c;
     };
-    let c = say::number(out, c, b"ok type ", ty.number() as u32);
-    let c = say::id(out, c, b" id ", session_id);
-    let c = say::id(out, c, b" seq ", session_sequence_number);
-    say::labelled(out, c, b" payload ", frame::payload(packet, encrypts, len))
+    let c = cases::say_number(out, c, b"ok type ", ty.number() as u32);
+    let c = say_ids(out, c, session_id, session_sequence_number);
+    cases::say_bytes(out, c, b" payload ", frame::payload(packet, encrypts, len))
 }
 
-// The answer about a buffer that begins with what the call left, with what was lent right behind it; the packet begins at `start`.
-fn told_read(
+// What is told of a packet that was refused.
+fn say_unread(
     out: &mut [u8],
     c: Cursor,
-    r: Read,
-    encrypts: bool,
-    buf: &[u8],
-    n: usize,
-    start: usize,
+    why: Refusal,
+    blocks: u32,
+    lent: &[u8],
+    left: &[u8],
 ) -> Cursor {
-    let left = part(buf, 0, n);
-    let lent = behind(buf, n);
-    let a = r.answer;
+    let c = cases::say_refusal(out, c, why);
+    let c = say_blocks(out, c, blocks);
+    say_buffer(out, c, lent, left)
+}
+
+// What is told of a packet, which begins at `start` of what the call left; `lent` is what that was before.
+fn say_read(out: &mut [u8], c: Cursor, r: Packet, lent: &[u8], left: &[u8]) -> Cursor {
+    let read = r.read;
+    let a = read.answer;
+    let start = r.start;
     if let Reading::Refused(why) = a {
-        let c = say::refused(out, c, why);
-        let c = say::blocks(out, c, r.blocks);
-        return kept(out, c, lent, left);
+        return say_unread(out, c, why, read.blocks, lent, left);
     }
-    let c = accepted(out, c, a, part(buf, start, n), encrypts);
-    let c = kept(out, c, lent, left);
-    say::blocks(out, c, r.blocks)
+    let c = say_packet(out, c, a, pick_part(left, start, left.len()), r.encrypts);
+    let c = say_buffer(out, c, lent, left);
+    say_blocks(out, c, read.blocks)
 }
 
-// The n bytes behind the first n.
-fn behind(buf: &[u8], n: usize) -> &[u8] {
-    if n < 0x1000_0000 {
-        part(buf, n, n + n)
-    } else {
-        part(buf, 0, 0)
-    }
-}
-
-fn read_one(s: SubState, outer: bool, packet: &mut [u8]) -> Read {
+fn read_packet(s: SubState, outer: bool, packet: &mut [u8]) -> Read {
     if outer {
         frame::read_datagram(s, packet)
     } else {
@@ -130,29 +124,45 @@ fn read_one(s: SubState, outer: bool, packet: &mut [u8]) -> Read {
     }
 }
 
-// A field's bytes, and the same bytes right behind them.
-fn twice(line: &[u8], k: usize, buf: &mut [u8]) -> Span {
-    let once = span_of(line, k, buf, 0);
-    let again = span_of(line, k, buf, once.to);
-    Span {
-        bad: again.bad,
-        from: 0,
-        to: once.to,
+// What was read: the packet, as the call left it, ends at `len`, and what was lent stands behind it up to `end`.
+struct Packet {
+    bad: bool,
+    encrypts: bool,
+    start: usize,
+    len: usize,
+    end: usize,
+    read: Read,
+}
+
+// Reads the packet of a line, which is put into the buffer twice, so that what the call changed shows.
+fn read_line(line: &[u8], outer: bool, buf: &mut [u8]) -> Packet {
+    let g = read_session(line);
+    let once = read_bytes(line, 4, buf, 0);
+    let again = read_bytes(line, 4, buf, once.to);
+    let s = g.session;
+    Packet {
+        bad: g.bad | again.bad,
+        encrypts: g.encrypts,
+        start: if outer { 4 } else { 0 },
+        len: once.to,
+        end: again.to,
+        read: read_packet(s, outer, lend_part(buf, once.to)),
     }
 }
 
 // `read CONF INTEG SIK PACKET` and `datagram CONF INTEG SIK DATAGRAM`.
-pub fn read_case(line: &[u8], outer: bool, buf: &mut [u8], out: &mut [u8], c: Cursor) -> Cursor {
-    let g = session_of(line);
-    let packet = twice(line, 4, buf);
-    if g.bad | packet.bad {
+pub fn tell_read(line: &[u8], outer: bool, buf: &mut [u8], out: &mut [u8], c: Cursor) -> Cursor {
+    let r = read_line(line, outer, buf);
+    if r.bad {
         return c;
     }
-    let s = g.session;
-    let n = packet.to;
-    let r = read_one(s, outer, part_mut(buf, n));
-    let start = if outer { 4 } else { 0 };
-    told_read(out, c, r, g.encrypts, buf, n, start)
+    say_read(
+        out,
+        c,
+        r,
+        pick_part(buf, r.len, r.end),
+        pick_part(buf, 0, r.len),
+    )
 }
 
 struct Kind {
@@ -161,8 +171,8 @@ struct Kind {
 }
 
 // A field that is the number of one of the eight types.
-fn kind_of(line: &[u8], k: usize) -> Kind {
-    let c = count_of(line, k, 0x15);
+fn read_type(line: &[u8], k: usize) -> Kind {
+    let c = read_decimal(line, k, 0x15);
     let n = c.n;
     let ty = match n {
         0x01 => PayloadType::Sol,
@@ -191,12 +201,12 @@ struct Order {
 }
 
 // IV, TYPE, ID, SEQ and ROOM.
-fn order_of(line: &[u8]) -> Order {
-    let iv = block_of(line, 4);
-    let ty = kind_of(line, 5);
-    let id = word_of(line, 6);
-    let seq = word_of(line, 7);
-    let room = room_of(line, 8);
+fn read_order(line: &[u8]) -> Order {
+    let iv = cases::read_block(line, 4);
+    let ty = read_type(line, 5);
+    let id = cases::read_id(line, 6);
+    let seq = cases::read_id(line, 7);
+    let room = cases::read_room(line, 8);
     let v = iv.bytes;
     let t = ty.ty;
     Order {
@@ -209,7 +219,7 @@ fn order_of(line: &[u8]) -> Order {
     }
 }
 
-fn write_one(s: SubState, o: Order, outer: bool, payload: &[u8], room: &mut [u8]) -> Written {
+fn write_packet(s: SubState, o: Order, outer: bool, payload: &[u8], room: &mut [u8]) -> Written {
     let ty = o.ty;
     let iv = o.iv;
     if outer {
@@ -219,21 +229,48 @@ fn write_one(s: SubState, o: Order, outer: bool, payload: &[u8], room: &mut [u8]
     }
 }
 
-fn told_written(w: Written, room: &[u8], n: usize, out: &mut [u8], c: Cursor) -> Cursor {
+fn say_written(w: Written, room: &[u8], n: usize, out: &mut [u8], c: Cursor) -> Cursor {
     match w {
         Written::Length(len) => {
-            let c = say::labelled(out, c, b"ok ", part(room, 0, len));
-            spilled(out, c, room, len, n)
+            let c = cases::say_bytes(out, c, b"ok ", pick_part(room, 0, len));
+            cases::say_spill(out, c, room, len, n)
         }
         Written::Refused(r) => {
-            let c = say::refused(out, c, r);
-            spilled(out, c, room, 0, n)
+            let c = cases::say_refusal(out, c, r);
+            cases::say_spill(out, c, room, 0, n)
         }
     }
 }
 
+// What was written into the room that was lent.
+struct Output {
+    bad: bool,
+    written: Written,
+    room: usize,
+}
+
+// Writes the packet that a line asks for.
+fn write_line(line: &[u8], outer: bool, buf: &mut [u8], room: &mut [u8]) -> Output {
+    let g = read_session(line);
+    let o = read_order(line);
+    let payload = read_bytes(line, 9, buf, 0);
+    let s = g.session;
+    let n = o.room as usize;
+    Output {
+        bad: g.bad | o.bad | payload.bad,
+        written: write_packet(
+            s,
+            o,
+            outer,
+            pick_part(buf, 0, payload.to),
+            lend_room(room, n),
+        ),
+        room: n,
+    }
+}
+
 // `write CONF INTEG SIK IV TYPE ID SEQ ROOM PAYLOAD` and `wrap ..`.
-pub fn write_case(
+pub fn tell_written(
     line: &[u8],
     outer: bool,
     buf: &mut [u8],
@@ -241,14 +278,10 @@ pub fn write_case(
     out: &mut [u8],
     c: Cursor,
 ) -> Cursor {
-    let g = session_of(line);
-    let o = order_of(line);
-    let payload = span_of(line, 9, buf, 0);
-    if g.bad | o.bad | payload.bad {
+    let w = write_line(line, outer, buf, room);
+    if w.bad {
         return c;
     }
-    let s = g.session;
-    let n = o.room as usize;
-    let w = write_one(s, o, outer, within(buf, payload), lend(room, n));
-    told_written(w, room, n, out, c)
+    let written = w.written;
+    say_written(written, room, w.room, out, c)
 }

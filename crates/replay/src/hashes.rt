@@ -1,33 +1,26 @@
 // The cases of the hash and of the code.
 ghost use Prim.Native.Nat.{_<_, _≤_};
-use crate::numbers::count_of;
-use crate::say;
-use crate::walk::Field;
-use crate::walk::bytes;
-use crate::walk::first;
-use crate::walk::next;
-use crate::walk::part;
-use crate::walk::span_of;
-use crate::walk::text_of;
-use crate::walk::within;
+use crate::say::say_blocks;
+use cases::pick_part;
+use cases::read_bytes;
+use refusal::Outcome;
 use sha1::Hashed;
-use sha1::Outcome;
 use sha1::Sha1;
 use sha1::Sha1Hmac;
 use text::Cursor;
 
 // `ok DIGEST blocks B`, or the refusal.
-fn told(out: &mut [u8], c: Cursor, h: Hashed) -> Cursor {
+fn say_hashed(out: &mut [u8], c: Cursor, h: Hashed) -> Cursor {
     let a = h.answer;
     match a {
         Outcome::Done => {
             let digest = h.digest;
-            let c = say::labelled(out, c, b"ok ", &digest);
-            say::blocks(out, c, h.blocks)
+            let c = cases::say_bytes(out, c, b"ok ", &digest);
+            say_blocks(out, c, h.blocks)
         }
         Outcome::Refused(r) => {
-            let c = say::refused(out, c, r);
-            say::blocks(out, c, 0)
+            let c = cases::say_refusal(out, c, r);
+            say_blocks(out, c, 0)
         }
     }
 }
@@ -39,21 +32,24 @@ struct Sum {
 }
 
 // `sha1 DATA`.
-fn sha1_case(line: &[u8], buf: &mut [u8]) -> Sum {
-    let data = span_of(line, 1, buf, 0);
+fn hash_data(line: &[u8], buf: &mut [u8]) -> Sum {
+    let data = read_bytes(line, 1, buf, 0);
     Sum {
         bad: data.bad,
-        hashed: sha1::hash(within(buf, data)),
+        hashed: sha1::hash(pick_part(buf, 0, data.to)),
     }
 }
 
 // `hmac KEY DATA`.
-fn hmac_case(line: &[u8], buf: &mut [u8]) -> Sum {
-    let key = span_of(line, 1, buf, 0);
-    let data = span_of(line, 2, buf, key.to);
+fn code_data(line: &[u8], buf: &mut [u8]) -> Sum {
+    let key = read_bytes(line, 1, buf, 0);
+    let data = read_bytes(line, 2, buf, key.to);
     Sum {
         bad: key.bad | data.bad,
-        hashed: sha1::hmac(within(buf, key), within(buf, data)),
+        hashed: sha1::hmac(
+            pick_part(buf, 0, key.to),
+            pick_part(buf, data.from, data.to),
+        ),
     }
 }
 
@@ -61,52 +57,51 @@ fn hmac_case(line: &[u8], buf: &mut [u8]) -> Sum {
 struct Pieces {
     hash: Sha1,
     answer: Outcome,
-    at: Field,
     bad: bool,
 }
 
 // The first refusal is the answer.
-fn earlier(a: Outcome, b: Outcome) -> Outcome {
+fn keep_first(a: Outcome, b: Outcome) -> Outcome {
     match a {
         Outcome::Done => b,
         Outcome::Refused(_) => a,
     }
 }
 
-fn piece(line: &[u8], s: Pieces, buf: &mut [u8]) -> Pieces {
+// Feeds the piece at `at`.
+fn feed_piece(line: &[u8], at: usize, s: Pieces, buf: &mut [u8]) -> Pieces {
     let h = s.hash;
     let a = s.answer;
-    let f = next(line, s.at);
-    let p = bytes(text_of(line, f), buf, 0);
-    let fed = h.update(within(buf, p));
+    let p = read_bytes(pick_part(line, at, line.len()), 0, buf, 0);
+    let fed = h.update(pick_part(buf, 0, p.to));
     let h = fed.hash;
     let b = fed.answer;
     Pieces {
         hash: h,
-        answer: earlier(a, b),
-        at: f,
+        answer: keep_first(a, b),
         bad: s.bad | p.bad,
     }
 }
 
-fn all_pieces(line: &[u8], buf: &mut [u8]) -> Pieces {
+// Feeds the pieces of a line of n fields, one after the other.
+fn feed_pieces(line: &[u8], n: usize, buf: &mut [u8]) -> Pieces {
     let mut s = Pieces {
         hash: Sha1::new(),
         answer: Outcome::Done,
-        at: first(line),
         bad: false,
     };
-    let n = text::fields(line, b' ');
+    let mut at: usize = 0;
     let mut k: usize = 1;
     while k < n {
-        s = piece(line, s, buf);
+        at = cases::pass_field(line, at, b' ');
+        s = feed_piece(line, at, s, buf);
         k += 1;
     }
     s
 }
 
 // What a hash tells that was refused.
-fn stopped(a: Outcome) -> Hashed {
+fn tell_refused(a: Outcome) -> Hashed {
     Hashed {
         answer: a,
         digest: [0u8; 20],
@@ -115,23 +110,23 @@ fn stopped(a: Outcome) -> Hashed {
 }
 
 // `pieces DATA DATA ..`, one piece at least.
-fn pieces_case(line: &[u8], buf: &mut [u8]) -> Sum {
-    let s = all_pieces(line, buf);
+fn hash_pieces(line: &[u8], buf: &mut [u8]) -> Sum {
+    let n = text::fields(line, b' ');
+    let s = feed_pieces(line, n, buf);
     let h = s.hash;
     let a = s.answer;
     let hashed = match a {
         Outcome::Done => h.finalize(),
-        Outcome::Refused(_) => stopped(a),
+        Outcome::Refused(_) => tell_refused(a),
     };
-    let f = s.at;
     Sum {
-        bad: s.bad | (f.from == 0),
+        bad: s.bad | (n == 1),
         hashed,
     }
 }
 
 // How many bytes a piece of m has where `left` are to come; all of them where m is none.
-fn piece_len(left: u32, m: u32) -> u32
+fn size_piece(left: u32, m: u32) -> u32
     requires { ⌜ 0 < left ⌝ }
     ensures { λ r. ⌜ (0 < r) × (r ≤ left) ⌝ }
 {
@@ -143,15 +138,15 @@ fn piece_len(left: u32, m: u32) -> u32
 }
 
 // A hash of n zeros in pieces of m, or the refusal of the first piece that is refused.
-fn zeros(zero: &[u8], n: u32, m: u32) -> Hashed {
+fn hash_zeros(zero: &[u8], n: u32, m: u32) -> Hashed {
     let mut h = Sha1::new();
     let mut left = n;
     while 0 < left {
-        let k = piece_len(left, m);
-        let fed = h.update(part(zero, 0, k as usize));
+        let k = size_piece(left, m);
+        let fed = h.update(pick_part(zero, 0, k as usize));
         let a = fed.answer;
         if let Outcome::Refused(_) = a {
-            return stopped(a);
+            return tell_refused(a);
         }
         h = fed.hash;
         left -= k;
@@ -160,17 +155,17 @@ fn zeros(zero: &[u8], n: u32, m: u32) -> Hashed {
 }
 
 // The same under HMAC with a key of twenty bytes 0B.
-fn hmac_zeros(zero: &[u8], n: u32, m: u32) -> Hashed {
+fn code_zeros(zero: &[u8], n: u32, m: u32) -> Hashed {
     let key = [0x0bu8; 20];
     let begun = Sha1Hmac::new(&key);
     let mut h = begun.mac;
     let mut left = n;
     while 0 < left {
-        let k = piece_len(left, m);
-        let fed = h.feed(part(zero, 0, k as usize));
+        let k = size_piece(left, m);
+        let fed = h.feed(pick_part(zero, 0, k as usize));
         let a = fed.answer;
         if let Outcome::Refused(_) = a {
-            return stopped(a);
+            return tell_refused(a);
         }
         h = fed.mac;
         left -= k;
@@ -179,16 +174,16 @@ fn hmac_zeros(zero: &[u8], n: u32, m: u32) -> Hashed {
 }
 
 // `zeros N M` and `hmac-zeros N M`. Nothing is hashed for a bad line, which may ask for much.
-fn zeros_case(line: &[u8], coded: bool) -> Sum {
-    let n = count_of(line, 1, 0xffff_ffff);
-    let m = count_of(line, 2, 65536);
+fn sum_zeros(line: &[u8], coded: bool) -> Sum {
+    let n = cases::read_decimal(line, 1, 0xffff_ffff);
+    let m = cases::read_decimal(line, 2, 65536);
     let bad = n.bad | m.bad | (m.n == 0);
     let count = if bad { 0 } else { n.n };
     let zero = io::large_buffer();
     let hashed = if coded {
-        hmac_zeros(&zero, count, m.n)
+        code_zeros(&zero, count, m.n)
     } else {
-        zeros(&zero, count, m.n)
+        hash_zeros(&zero, count, m.n)
     };
     Sum { bad, hashed }
 }
@@ -201,21 +196,21 @@ pub enum Summing {
     HmacZeros,
 }
 
-fn summed(line: &[u8], which: Summing, buf: &mut [u8]) -> Sum {
+fn sum_line(line: &[u8], which: Summing, buf: &mut [u8]) -> Sum {
     match which {
-        Summing::Sha1 => sha1_case(line, buf),
-        Summing::Pieces => pieces_case(line, buf),
-        Summing::Hmac => hmac_case(line, buf),
-        Summing::Zeros => zeros_case(line, false),
-        Summing::HmacZeros => zeros_case(line, true),
+        Summing::Sha1 => hash_data(line, buf),
+        Summing::Pieces => hash_pieces(line, buf),
+        Summing::Hmac => code_data(line, buf),
+        Summing::Zeros => sum_zeros(line, false),
+        Summing::HmacZeros => sum_zeros(line, true),
     }
 }
 
-pub fn answer(line: &[u8], which: Summing, buf: &mut [u8], out: &mut [u8], c: Cursor) -> Cursor {
-    let s = summed(line, which, buf);
+pub fn tell_hash(line: &[u8], which: Summing, buf: &mut [u8], out: &mut [u8], c: Cursor) -> Cursor {
+    let s = sum_line(line, which, buf);
     if s.bad {
         return c;
     }
     let h = s.hashed;
-    told(out, c, h)
+    say_hashed(out, c, h)
 }

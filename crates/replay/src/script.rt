@@ -1,161 +1,189 @@
 // The case of calls on one step record.
 use crate::calls;
-use crate::calls::Called;
-use crate::lent::lend;
-use crate::lent::spilled;
-use crate::numbers::Count;
-use crate::numbers::room_of;
-use crate::say;
-use crate::walk::first;
-use crate::walk::nth;
-use crate::walk::part;
-use crate::walk::place_of;
-use crate::walk::sum;
+use crate::calls::Call;
+use crate::calls::Plan;
+use crate::lent::lend_room;
+use cases::Count;
+use cases::pick_field;
+use cases::pick_part;
+use refusal::Outcome;
 use session::Record;
-use session::StepAnswer;
 use session::Stepped;
 use text::Cursor;
 
-// Where a script stands: the record, the answers, and how far the line has been gone through.
+// Where a script stands: the record, and the answers.
 struct Script {
     state: Record,
     told: Cursor,
-    at: usize,
     bad: bool,
 }
 
-enum Call {
-    Begin,
-    Open,
-    M2,
-    M4,
-    Bad,
+// A call of a script: which fields it takes, how many it has, and which of them is its room (0 for none).
+struct Form {
+    plan: Plan,
+    fields: usize,
+    room: usize,
 }
 
-// The call that has this word, if it has this many fields. It stands behind a space, so its first field is empty.
-fn which(call: &[u8]) -> Call {
-    let f = first(call);
-    if f.to != 0 {
-        return Call::Bad;
+fn make_form(call: Call, a: usize, b: usize, c: usize, fields: usize, room: usize) -> Form {
+    Form {
+        plan: Plan { call, a, b, c },
+        fields,
+        room,
     }
+}
+
+// `begin OWNID LEVEL NAME ROOM`, `open ROOM OPENED RM`, `m2 ROOM KG PASSWORD MSG` and `m4 MSG`, each behind a space.
+fn form_call(k: usize) -> Form {
+    match k {
+        0 => make_form(Call::Begin, 2, 3, 4, 6, 5),
+        1 => make_form(Call::Open, 3, 4, 0, 5, 2),
+        2 => make_form(Call::M2, 3, 4, 5, 6, 2),
+        3 => make_form(Call::M4, 2, 0, 0, 3, 0),
+        _ => make_form(Call::Bad, 0, 0, 0, 0, 0),
+    }
+}
+
+// The form of a call by its word.
+fn find_form(call: &[u8]) -> Form {
+    form_call(cases::look_up(b"begin open m2 m4", pick_field(call, 1)))
+}
+
+// How much room a call is lent, where it asks for some.
+fn size_room(call: &[u8], k: usize) -> Count {
+    if k == 0 {
+        return Count { bad: false, n: 0 };
+    }
+    cases::read_room(call, k)
+}
+
+// What a call left, in how much room.
+struct Ran {
+    bad: bool,
+    step: Stepped,
+    room: usize,
+}
+
+// The form of a call, and how much room it is lent.
+struct Asked {
+    bad: bool,
+    plan: Plan,
+    room: usize,
+}
+
+// A call stands behind a space, so its first field is empty.
+fn read_call(call: &[u8]) -> Asked {
+    let form = find_form(call);
+    let size = size_room(call, form.room);
     let n = text::fields(call, b' ');
-    match place_of(b"begin open m2 m4", nth(call, 1)) {
-        0 => if n == 6 { Call::Begin } else { Call::Bad },
-        1 => if n == 5 { Call::Open } else { Call::Bad },
-        2 => if n == 6 { Call::M2 } else { Call::Bad },
-        3 => if n == 3 { Call::M4 } else { Call::Bad },
-        _ => Call::Bad,
+    let plan = form.plan;
+    Asked {
+        bad: size.bad | (n != form.fields) | (pick_field(call, 0).len() != 0),
+        plan,
+        room: size.n as usize,
     }
 }
 
-// How much room the call is lent.
-fn size_of(call: &[u8], which: Call) -> Count {
-    match which {
-        Call::Begin => room_of(call, 5),
-        Call::Open => room_of(call, 2),
-        Call::M2 => room_of(call, 2),
-        Call::M4 => Count { bad: false, n: 0 },
-        Call::Bad => Count { bad: true, n: 0 },
-    }
-}
-
-// `begin OWNID LEVEL NAME ROOM`, `open ROOM OPENED RM`, `m2 ROOM KG PASSWORD MSG` and `m4 MSG`.
-fn made(call: &[u8], which: Call, state: Record, buf: &mut [u8], room: &mut [u8]) -> Called {
-    match which {
-        Call::Begin => calls::begin_call(call, 2, 3, 4, buf, room),
-        Call::Open => calls::open_call(call, 3, 4, state, buf, room),
-        Call::M2 => calls::m2_call(calls::texts_of(call, 3, 4, 5, buf), state, buf, room),
-        Call::M4 => calls::m4_call(call, 2, state, buf),
-        Call::Bad => calls::bad_call(state),
+// Makes the call at `at`.
+fn run_call(script: &[u8], at: usize, state: Record, buf: &mut [u8], room: &mut [u8]) -> Ran {
+    let call = pick_part(script, at, text::field_end(script, at, b';'));
+    let asked = read_call(call);
+    let n = asked.room;
+    let r = calls::make_call(call, asked.plan, state, buf, lend_room(room, n));
+    let d = r.step;
+    Ran {
+        bad: asked.bad | r.bad,
+        step: d,
+        room: n,
     }
 }
 
 // The answer of a step that wrote a message.
-fn told_answer(a: StepAnswer, message: &[u8], out: &mut [u8], c: Cursor) -> Cursor {
+fn say_answer(a: Outcome, message: &[u8], out: &mut [u8], c: Cursor) -> Cursor {
     match a {
-        StepAnswer::Done => say::labelled(out, c, b"ok ", message),
-        StepAnswer::Refused(r) => {
-            let c = say::refused(out, c, r);
-            wrote(out, c, message)
+        Outcome::Done => cases::say_bytes(out, c, b"ok ", message),
+        Outcome::Refused(r) => {
+            let c = cases::say_refusal(out, c, r);
+            say_wrote(out, c, message)
         }
     }
 }
 
 // The message that a refusal wrote, if it wrote one.
-fn wrote(out: &mut [u8], c: Cursor, message: &[u8]) -> Cursor {
+fn say_wrote(out: &mut [u8], c: Cursor, message: &[u8]) -> Cursor {
     if message.len() == 0 {
         return c;
     }
-    say::labelled(out, c, b" wrote ", message)
+    cases::say_bytes(out, c, b" wrote ", message)
 }
 
 // Between two answers.
-fn parted(out: &mut [u8], c: Cursor, at: usize) -> Cursor {
-    if at == 0 {
+fn part_answers(out: &mut [u8], c: Cursor, k: usize) -> Cursor {
+    if k == 0 {
         return c;
     }
     text::add(out, c, b"; ")
 }
 
-// What is told of a step that was lent the first n bytes of the room.
-fn told_step(d: Stepped, room: &[u8], n: usize, out: &mut [u8], c: Cursor) -> Cursor {
+// What is told of a call that k others stand before.
+fn say_call(r: Ran, k: usize, room: &[u8], out: &mut [u8], c: Cursor) -> Cursor {
+    let d = r.step;
     let a = d.answer;
-    let c = told_answer(a, part(room, 0, d.len), out, c);
-    spilled(out, c, room, d.len, n)
+    let c = part_answers(out, c, k);
+    let c = say_answer(a, pick_part(room, 0, d.len), out, c);
+    cases::say_spill(out, c, room, d.len, r.room)
 }
 
-// The next call, and its answer.
-fn turn(rest: &[u8], s: Script, buf: &mut [u8], room: &mut [u8], out: &mut [u8]) -> Script {
+// The call at `at`, which k others stand before, and its answer.
+fn take_call(
+    script: &[u8],
+    at: usize,
+    k: usize,
+    s: Script,
+    buf: &mut [u8],
+    room: &mut [u8],
+    out: &mut [u8],
+) -> Script {
     if s.bad {
         return s;
     }
-    let state = s.state;
-    let told = s.told;
-    let at = s.at;
-    let end = text::field_end(rest, at, b';');
-    let call = part(rest, at, end);
-    let which = which(call);
-    let size = size_of(call, which);
-    let n = size.n as usize;
-    let r = made(call, which, state, buf, lend(room, n));
-    let c = parted(out, told, at);
+    let r = run_call(script, at, s.state, buf, room);
     let d = r.step;
     let state = d.state;
     Script {
         state,
-        told: told_step(d, room, n, out, c),
-        at: sum(end, 1),
-        bad: size.bad | r.bad,
+        told: say_call(r, k, room, out, s.told),
+        bad: r.bad,
     }
 }
 
-fn all_calls(rest: &[u8], buf: &mut [u8], room: &mut [u8], out: &mut [u8], c: Cursor) -> Script {
+fn take_calls(script: &[u8], buf: &mut [u8], room: &mut [u8], out: &mut [u8], c: Cursor) -> Script {
     let mut s = Script {
-        state: calls::closed(),
+        state: calls::make_closed(),
         told: c,
-        at: 0,
         bad: false,
     };
-    let n = text::fields(rest, b';');
+    let n = text::fields(script, b';');
+    let mut at: usize = 0;
     let mut k: usize = 0;
     while k < n {
-        s = turn(rest, s, buf, room, out);
+        s = take_call(script, at, k, s, buf, room, out);
+        at = cases::pass_field(script, at, b';');
         k += 1;
     }
     s
 }
 
 // `script CALL; CALL; ..`. One bad call makes the whole line bad, and takes back the answers before it.
-pub fn script_case(
+pub fn tell_script(
     line: &[u8],
     buf: &mut [u8],
     room: &mut [u8],
     out: &mut [u8],
     c: Cursor,
 ) -> Cursor {
-    let f = first(line);
-    let to = f.to;
-    let s = all_calls(part(line, to, line.len()), buf, room, out, c);
+    let word = pick_field(line, 0);
+    let s = take_calls(pick_part(line, word.len(), line.len()), buf, room, out, c);
     if s.bad {
         return c;
     }

@@ -6,7 +6,12 @@ use Rattle.replay.proofs.run.Statement.{statement}
 use Rattle.replay.proofs.run.Tie as tie
 
 abbrev Inv-loop : tie.InvT-loop
-Inv-loop piece₀ line₀ bytes₀ room₀ out₀ s₀ turns₀ piece line bytes room out s turns = (length piece ≡ length piece₀) × (length line ≡ length line₀) × (length bytes ≡ length bytes₀) × (length room ≡ length room₀) × (length out ≡ length out₀)
+Inv-loop piece₀ line₀ bytes₀ room₀ out₀ s₀ turns₀ piece line bytes room out s turns =
+    (length piece ≡ length piece₀)
+    × (length line ≡ length line₀)
+    × (length bytes ≡ length bytes₀)
+    × (length room ≡ length room₀)
+    × (length out ≡ length out₀)
 
 abbrev μ-loop : tie.MeasureT-loop
 μ-loop piece₀ line₀ bytes₀ room₀ out₀ s₀ turns₀ piece line bytes room out s turns = turns

@@ -1,0 +1,129 @@
+// Which case a line is.
+use crate::ciphers;
+use crate::frames;
+use crate::hashes;
+use crate::hashes::Summing;
+use crate::script;
+use crate::steps;
+use text::Cursor;
+
+// The cases, by what their answers need; what is in one tells the words of one shape apart.
+enum Case {
+    Short(Short),
+    Read(bool),
+    Write(bool),
+    Steps,
+    Script,
+    Bad,
+}
+
+// The cases that are one call of the hash, the cipher or a block's reader.
+enum Short {
+    Hash(Summing),
+    Block(bool),
+    Cbc(bool),
+    Keys,
+    Payload,
+}
+
+// How many fields a line has that begins with the word at k, by which the words are in order; any number from 15 on.
+fn count_fields(k: usize, n: usize) -> usize {
+    if k < 3 {
+        return 2;
+    }
+    if k < 8 {
+        return 3;
+    }
+    if k < 10 {
+        return 4;
+    }
+    if k < 12 {
+        return 5;
+    }
+    if k < 15 { 10 } else { n }
+}
+
+// The case of the word at k.
+fn name_case(k: usize) -> Case {
+    match k {
+        0 => Case::Short(Short::Hash(Summing::Sha1)),
+        1 => Case::Short(Short::Keys),
+        2 => Case::Short(Short::Payload),
+        3 => Case::Short(Short::Hash(Summing::Hmac)),
+        4 => Case::Short(Short::Hash(Summing::Zeros)),
+        5 => Case::Short(Short::Hash(Summing::HmacZeros)),
+        6 => Case::Short(Short::Block(false)),
+        7 => Case::Short(Short::Block(true)),
+        8 => Case::Short(Short::Cbc(false)),
+        9 => Case::Short(Short::Cbc(true)),
+        10 => Case::Read(false),
+        11 => Case::Read(true),
+        12 => Case::Write(false),
+        13 => Case::Write(true),
+        14 => Case::Steps,
+        15 => Case::Short(Short::Hash(Summing::Pieces)),
+        16 => Case::Script,
+        _ => Case::Bad,
+    }
+}
+
+// Which word the line begins with.
+fn find_word(line: &[u8]) -> usize {
+    let words =
+        b"sha1 keys block hmac zeros hmac-zeros encrypt decrypt cbc-encrypt cbc-decrypt read datagram write wrap steps pieces script";
+    cases::look_up(words, cases::pick_field(line, 0))
+}
+
+fn find_case(line: &[u8]) -> Case {
+    let k = find_word(line);
+    let n = text::fields(line, b' ');
+    if count_fields(k, n) == n {
+        name_case(k)
+    } else {
+        Case::Bad
+    }
+}
+
+// As below, of a case that is one call.
+fn tell_short(line: &[u8], which: Short, buf: &mut [u8], out: &mut [u8], c: Cursor) -> Cursor {
+    match which {
+        Short::Hash(which) => hashes::tell_hash(line, which, buf, out, c),
+        Short::Block(decrypts) => ciphers::tell_block(line, decrypts, out, c),
+        Short::Cbc(decrypts) => ciphers::tell_cbc(line, decrypts, buf, out, c),
+        Short::Keys => ciphers::tell_keys(line, out, c),
+        Short::Payload => steps::tell_payload(line, buf, out, c),
+    }
+}
+
+// Tells nothing of a bad line.
+fn tell_case(line: &[u8], buf: &mut [u8], room: &mut [u8], out: &mut [u8], c: Cursor) -> Cursor {
+    match find_case(line) {
+        Case::Short(which) => tell_short(line, which, buf, out, c),
+        Case::Read(outer) => frames::tell_read(line, outer, buf, out, c),
+        Case::Write(outer) => frames::tell_written(line, outer, buf, room, out, c),
+        Case::Steps => steps::tell_steps(line, buf, out, c),
+        Case::Script => script::tell_script(line, buf, room, out, c),
+        Case::Bad => c,
+    }
+}
+
+// Ends the line of an answer that was told from c on; where nothing was, the line is bad.
+fn end_line(out: &mut [u8], c: Cursor, told: Cursor) -> Cursor {
+    if told.at == c.at {
+        return text::add(out, c, b"bad line\n");
+    }
+    text::add(out, told, b"\n")
+}
+
+// The answer to one line, after what waits.
+pub fn answer_line(
+    line: &[u8],
+    buf: &mut [u8],
+    room: &mut [u8],
+    out: &mut [u8],
+    at: usize,
+) -> Cursor {
+    let c = Cursor { at, full: false };
+    let told = tell_case(line, buf, room, out, c);
+    end_line(out, c, told)
+}

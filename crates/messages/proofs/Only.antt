@@ -4,11 +4,9 @@ use Prim.Native.Nat.{ℕ}
 use mathlib.Core.List.{List}
 use mathlib.Core.Path.{_≡_, refl, sym, _∙_, ap, ap₂}
 use denote.Ref.{now}
-use Rattle.refusal.specs.Order.{Res, refuse}
-use Rattle.refusal.specs.Table.{numberOf, valueOf}
-use Rattle.refusal.specs.declared.Refusal.{Refusal}
+use Rattle.refusal.specs.Order.{Res}
 use Rattle.refusal.proofs.Order.{refuse≢accept, accept-inj}
-use Rattle.refusal.proofs.Numbers.{told-one}
+use Rattle.refusal.proofs.Told.{refused-one}
 use Rattle.messages.specs.Answers.{tested, toldWritten, toldBlock, toldOpen, told4}
 use Rattle.messages.specs.Promises.{WritePromise, NamePromise, ReadPromise2}
 use Rattle.messages.specs.declared.rakp.Test.{Test}
@@ -41,43 +39,35 @@ use Rattle.messages.proofs.«rakp_3».RakpMessage3.write.Reads as messa
 use Rattle.messages.proofs.«rakp_3».RakpMessage3.decline.Reads as declined-reads
 use Rattle.messages.proofs.«rakp_4».RakpMessage4.«from_data».Reads as message4-reads
 
--- two refusals told alike are one
-module _ {A : Type 0} where
-  abbrev refusedAs : Refusal → Res A
-  refusedAs r = refuse (numberOf r) (valueOf r)
-
-  refusal-one : (r s : Refusal) → refusedAs r ≡ refusedAs s → r ≡ s
-  refusal-one r s e = told-one r s (cc) (cc)
-
 tested-one : (a b : Test) → tested a ≡ tested b → a ≡ b
 tested-one test.Passed test.Passed e = refl
 tested-one test.Passed (test.Refused s) e = absurd (refuse≢accept _ _ _ (sym e))
 tested-one (test.Refused r) test.Passed e = absurd (refuse≢accept _ _ _ e)
-tested-one (test.Refused r) (test.Refused s) e = ap test.Refused (refusal-one {A = ℕ} r s e)
+tested-one (test.Refused r) (test.Refused s) e = ap test.Refused (refused-one {A = ℕ} r s e)
 
 written-one : (a b : Written) → toldWritten a ≡ toldWritten b → a ≡ b
 written-one (written.Bytes m) (written.Bytes n) e = ap written.Bytes (accept-inj m n e)
 written-one (written.Bytes m) (written.Refused s) e = absurd (refuse≢accept _ _ _ (sym e))
 written-one (written.Refused r) (written.Bytes n) e = absurd (refuse≢accept _ _ _ e)
-written-one (written.Refused r) (written.Refused s) e = ap written.Refused (refusal-one {A = ℕ} r s e)
+written-one (written.Refused r) (written.Refused s) e = ap written.Refused (refused-one {A = ℕ} r s e)
 
 pub block-one : (a b : BlockAnswer) → toldBlock a ≡ toldBlock b → a ≡ b
 block-one (block.Block p) (block.Block q) e = ap block.Block (payload-one p q (accept-inj _ _ e))
 block-one (block.Block p) (block.Refused s) e = absurd (refuse≢accept _ _ _ (sym e))
 block-one (block.Refused r) (block.Block q) e = absurd (refuse≢accept _ _ _ e)
-block-one (block.Refused r) (block.Refused s) e = ap block.Refused (refusal-one r s e)
+block-one (block.Refused r) (block.Refused s) e = ap block.Refused (refused-one r s e)
 
 opened-one : (a b : OpenSessionAnswer) → toldOpen a ≡ toldOpen b → a ≡ b
 opened-one (opened.Response p) (opened.Response q) e = ap opened.Response (response-one p q (accept-inj _ _ e))
 opened-one (opened.Response p) (opened.Refused s) e = absurd (refuse≢accept _ _ _ (sym e))
 opened-one (opened.Refused r) (opened.Response q) e = absurd (refuse≢accept _ _ _ e)
-opened-one (opened.Refused r) (opened.Refused s) e = ap opened.Refused (refusal-one r s e)
+opened-one (opened.Refused r) (opened.Refused s) e = ap opened.Refused (refused-one r s e)
 
 four-one : (a b : RakpAnswer4) → told4 a ≡ told4 b → a ≡ b
 four-one (four.Message p) (four.Message q) e = ap four.Message (accept-inj p q e)
 four-one (four.Message p) (four.Refused s) e = absurd (refuse≢accept _ _ _ (sym e))
 four-one (four.Refused r) (four.Message q) e = absurd (refuse≢accept _ _ _ e)
-four-one (four.Refused r) (four.Refused s) e = ap four.Refused (refusal-one r s e)
+four-one (four.Refused r) (four.Refused s) e = ap four.Refused (refused-one r s e)
 
 write-one : (bytes out : List ℕ) (a b : Written) (x y : List ℕ) → WritePromise bytes out a x → WritePromise bytes out b y
     → (a ≡ b) × (x ≡ y)

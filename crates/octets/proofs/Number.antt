@@ -1,20 +1,16 @@
--- Laws of numbers as bytes, at any width: sizes, and that each way undoes the other.
+-- Laws of numbers as bytes, at any width: each way undoes the other.
 use Prim.Native.Nat.{ℕ, zero, suc, _+_, _*_, _/_, _%_, _^_, _<_, _≤_}
 use native.Mathlib.Omega.{arith}
 use mathlib.Core.List.{List, [], _∷_, _++_, append-nil}
 use mathlib.Core.Logic.{⊎-elim}
 use mathlib.Core.Path.{_≡_, refl, sym, _∙_, ap, ap₂}
-use lib.ListN.{length, getD, take, length-append, drop-of-length-le, List·getD-eq-default}
+use lib.ListN.{length, getD, take, drop-of-length-le, List·getD-eq-default}
 use lib.Seq.{drop-cons, append-snoc}
 use Rattle.octets.specs.Bytes.{Bytes}
 use Rattle.octets.specs.Number.{le, unle, be, onto, unbe}
 use Rattle.octets.specs.Place.{part}
 use Rattle.octets.proofs.Order.{lt-or-le}
 use Rattle.octets.proofs.Bytes.{bytes-nil, bytes-cons, bytes-tail, bytes-append}
-
-pub length-le : (w n : ℕ) → length (le w n) ≡ w
-length-le zero n = refl
-length-le (suc w) n = ap suc (length-le w (n / 256))
 
 -- a number that fits into w bytes comes back
 pub unle-le : (w n : ℕ) → n < 256 ^ w → unle (le w n) ≡ n
@@ -31,10 +27,6 @@ le-unle (b ∷ l) h =
     let e : (b + 256 * unle l) % 256 ≡ b = omega arith in
     let f : (b + 256 * unle l) / 256 ≡ unle l = omega arith in
     ap₂ _∷_ e (ap (le (length l)) f ∙ le-unle l (bytes-tail b l h))
-
-pub length-be : (w n : ℕ) → length (be w n) ≡ w
-length-be zero n = refl
-length-be (suc w) n = simp length-append (omega (arith, length-be w (n / 256)))
 
 pub bytes-be : (w n : ℕ) → Bytes (be w n)
 bytes-be zero n = bytes-nil

@@ -1,4 +1,1 @@
-pub mod Types
-pub mod Crypto
-pub mod Session
 pub mod Answers

@@ -4,18 +4,18 @@ ghost use mathlib.Core.Bool.{cond};
 ghost use Prim.Native.Nat.{_+_, _-_, _%_, _≤_};
 ghost use lib.ListN.{length};
 ghost use Rattle.octets.specs.Place.{part, pasted};
+ghost use Rattle.cbc.specs.Cbc.{cbcDecrypt};
 ghost use Rattle.framing.specs.Read.{bodyLength, readOf, openable, opened, leftOf, blocksOf, accepts};
 ghost use Rattle.framing.specs.Outer.{outerOf, readDatagramOf, leftDatagram, blocksDatagram};
-ghost use Rattle.frame.specs.Session.{suiteOf};
+ghost use Rattle.suite.specs.Session.{suiteOf};
 ghost use Rattle.refusal.specs.Outcome.{told};
-ghost use Rattle.frame.specs.Answers.{readTold, ReadPromise};
-use crate::Read;
-use crate::Reading;
-use crate::SubState;
-use crate::crypto;
-use crate::reader;
+ghost use Rattle.reader.specs.Answers.{readTold};
+ghost use Rattle.frame.specs.Answers.{ReadPromise};
+use reader::Read;
+use reader::Reading;
 use refusal::Outcome;
 use refusal::Refusal;
+use suite::SubState;
 
 fn is_accepted(a: Reading) -> bool
     ensures { λ r. ⌜ r ≡ accepts (readTold a) ⌝ }
@@ -45,6 +45,13 @@ fn is_openable(packet: &[u8]) -> bool
     12 + n <= packet.len()
 }
 
+fn decrypt(key: [u8; 16], iv: [u8; 16], s: &mut [u8])
+    requires { ⌜ length (now s) % 16 ≡ 0 ⌝ }
+    ensures { λ _. ⌜ now (s .exit) ≡ cbcDecrypt key iv (now (s .entry)) ⌝ }
+{
+    cbc::cbc_decrypt(key, iv, s);
+}
+
 // The part between the IV and the trailer is decrypted in its place.
 fn decrypt_body(s: SubState, packet: &mut [u8])
     requires { ⌜ (16 ≤ bodyLength (now packet)) × ((bodyLength (now packet) - 16) % 16 ≡ 0) × (12 + bodyLength (now packet) ≤ length (now packet)) ⌝ }
@@ -56,7 +63,7 @@ fn decrypt_body(s: SubState, packet: &mut [u8])
     let keys = s.keys;
     let key = keys.aes_key();
     let end = 12 + n;
-    crypto::decrypt(key, iv, &mut packet[28..end]);
+    decrypt(key, iv, &mut packet[28..end]);
 }
 
 // Opens a packet in its own buffer. Without AES, and where the packet has no such body, nothing changes. It checks nothing else: a
@@ -65,7 +72,7 @@ pub fn open_in_place(s: SubState, packet: &mut [u8])
     ensures { λ _. ⌜ now (packet .exit) ≡ cond (openable (now (packet .entry))) (opened (suiteOf s) (now (packet .entry))) (now (packet .entry)) ⌝ }
 {
     let c = s.confidentiality;
-    if !crate::encrypts(c) {
+    if !suite::encrypts(c) {
         return;
     }
     if !is_openable(packet) {
@@ -94,7 +101,7 @@ pub fn check_outer(datagram: &[u8]) -> Outcome
     if datagram.len() < 4 {
         return Outcome::Refused(Refusal::NotEnoughData);
     }
-    let outer = crate::OUTER;
+    let outer = suite::OUTER;
     if !octets::same(&datagram[..4], &outer) {
         return Outcome::Refused(Refusal::NotRmcpForIpmi);
     }

@@ -1,4 +1,4 @@
--- Reading a packet (docs/RULES.md, 6.6, 6.7 and 6.9): the order of the refusals, what is found, what the buffer holds
+-- Reading a packet (docs/RULES.md, 6.6, 6.7, 6.7.1 and 6.9): the order of the refusals, what is found, what the buffer holds
 -- afterwards and how many hash blocks are told. A definition for each stage of the reader.
 use Prim.Native.Nat.{ℕ, _+_, _-_, _/_, _%_}
 use mathlib.Core.Bool.{Bool, true, false, cond, not, _&&_}

@@ -1,1 +1,1 @@
-// The frame rules over any suite: definitions (specs/) and laws (proofs/). The crate `frame` has the code.
+// The frame rules over any suite: definitions (specs/) and laws (proofs/). The crates `suite`, `reader`, `writer` and `frame` have the code.

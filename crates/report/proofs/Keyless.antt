@@ -3,11 +3,11 @@ use Prim.Native.Nat.{ℕ}
 use mathlib.Core.Bool.{false}
 use mathlib.Core.List.{List}
 use mathlib.Core.Path.{_≡_, ap}
-use Rattle.frame.specs.Types.{encrypts, carriesCode, codeLength}
+use Rattle.suite.specs.Types.{encrypts, carriesCode, codeLength}
 use Rattle.framing.specs.Suite.{Suite}
-use Rattle.frame.specs.Session.{suiteOf}
+use Rattle.suite.specs.Session.{suiteOf}
 use Rattle.framing.specs.Read.{readOf, readWith, headOf, restOf, payloadBehind, beforeTrailer, bodyIn, payloadIn}
-use Rattle.frame.specs.declared.SubState.{SubState}
+use Rattle.suite.specs.declared.SubState.{SubState}
 use Rattle.report.specs.Told.{plain, Bare}
 
 -- a suite with neither algorithm is read as the plain one is, whatever its functions are

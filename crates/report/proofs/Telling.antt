@@ -7,13 +7,13 @@ use lib.ListN.{length}
 use borrow.Author.Tests.{le-leb, lt-leb, lt-ltb, le-ltb}
 use Rattle.refusal.specs.Order.{refuse, need, andThen}
 use Rattle.refusal.proofs.Order.{pass, need-no}
-use Rattle.frame.specs.Session.{suiteOf}
+use Rattle.suite.specs.Session.{suiteOf}
 use Rattle.framing.specs.Known.{known}
 use Rattle.framing.specs.Read.{readOf, readWith, headOf, restOf, payloadBehind, beforeTrailer, bodyIn, payloadIn}
 use Rattle.framing.specs.Told.{shown}
-use Rattle.frame.specs.Answers.{readTold, Tells}
-use Rattle.frame.specs.declared.SubState.{SubState}
-use Rattle.frame.specs.declared.Read.{Read}
+use Rattle.reader.specs.Answers.{readTold, Tells}
+use Rattle.suite.specs.declared.SubState.{SubState}
+use Rattle.reader.specs.declared.Read.{Read}
 use Rattle.text.specs.Line.{lineOf, packetLine}
 use Rattle.text.specs.Promise.{AddPromise}
 use Rattle.text.proofs.Writing.{add-of}

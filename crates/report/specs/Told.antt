@@ -7,13 +7,13 @@ use lib.Dec.{leb, ltb}
 use lib.ListN.{length}
 use Rattle.refusal.specs.Table.{numberOf, valueOf}
 use Rattle.refusal.specs.Order.{Res, refuse, accept, need}
-use Rattle.frame.specs.Types.{codeLength}
+use Rattle.suite.specs.Types.{codeLength}
 use Rattle.framing.specs.Suite.{Suite}
 use Rattle.framing.specs.Read.{readOf}
 use Rattle.framing.specs.Told.{Shown, shown}
-use Rattle.frame.specs.declared.Confidentiality as C
-use Rattle.frame.specs.declared.Integrity as I
-use Rattle.frame.specs.declared.SubState.{SubState}
+use Rattle.suite.specs.declared.Confidentiality as C
+use Rattle.suite.specs.declared.Integrity as I
+use Rattle.suite.specs.declared.SubState.{SubState}
 use Rattle.text.specs.Line.{packetLine, refusedLine}
 use Rattle.text.specs.declared.packet.Telling.{Telling}
 use Rattle.text.specs.declared.packet.Telling.the-variants.{Packet, Refused}

@@ -1,14 +1,14 @@
 // What became of one packet, as a line: the small program's work, which the program only feeds and prints.
 ghost use mathlib.Core.Path.{_≡_};
-ghost use Rattle.frame.specs.Answers.{readTold};
+ghost use Rattle.reader.specs.Answers.{readTold};
 ghost use Rattle.text.specs.Promise.{AddPromise};
 ghost use Rattle.report.specs.Told.{Bare, numbersTold, found, told};
-use frame::Confidentiality;
-use frame::Integrity;
-use frame::Reading;
-use frame::SubState;
 use keys::Keys;
+use reader::Reading;
 use refusal::Refusal;
+use suite::Confidentiality;
+use suite::Integrity;
+use suite::SubState;
 use text::Cursor;
 use text::Telling;
 
@@ -60,7 +60,7 @@ fn read_packet(packet: &[u8]) -> Telling
     if packet.len() > LONGEST {
         return Telling::Refused(Refusal::OutputTooShort);
     }
-    let r = frame::read_checked(make_session(), packet);
+    let r = reader::read_checked(make_session(), packet);
     let a = r.answer;
     make_telling(a)
 }

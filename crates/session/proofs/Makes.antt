@@ -22,7 +22,7 @@ use Rattle.running.proofs.Promised.{yes}
 use Rattle.sha1.proofs.Laws.{mac-length}
 use Rattle.keys.specs.Chosen.{absent, keyOf}
 use Rattle.keys.specs.declared.keys.Keys.{Keys}
-use Rattle.frame.specs.declared.SubState.{SubState}
+use Rattle.suite.specs.declared.SubState.{SubState}
 use Rattle.messages.specs.Answers.{tested}
 use Rattle.messages.specs.Name.{nameOf}
 use Rattle.messages.specs.OpenSession.{openRequest, responseNumbers}

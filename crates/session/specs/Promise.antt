@@ -10,7 +10,7 @@ use Rattle.refusal.specs.Order.{Res, refuse, accept, need, done}
 use Rattle.refusal.specs.Outcome.{told}
 use Rattle.refusal.specs.Table.{among}
 use Rattle.octets.specs.Place.{begun}
-use Rattle.frame.specs.declared.SubState.{SubState}
+use Rattle.suite.specs.declared.SubState.{SubState}
 use Rattle.keys.specs.declared.keys.Keys.{Keys}
 use Rattle.messages.specs.Rakp.{declined3}
 use Rattle.session.specs.Record.{closed, inStep, noKeys, noneAgreed}

@@ -4,8 +4,8 @@ use mathlib.Core.Bool.{Bool, true, false, _&&_}
 use mathlib.Core.List.{List}
 use lib.Dec.{eqb, leb}
 use lib.ListN.{replicate}
-use Rattle.frame.specs.declared.Confidentiality as C
-use Rattle.frame.specs.declared.Integrity as I
+use Rattle.suite.specs.declared.Confidentiality as C
+use Rattle.suite.specs.declared.Integrity as I
 use Rattle.keys.specs.Keys.{keysOf}
 use Rattle.keys.specs.declared.keys.Keys.{Keys}
 use Rattle.messages.specs.OpenSession.{Response}

@@ -1,10 +1,10 @@
 // The step record and the four steps by which a console opens a session.
-use frame::Confidentiality;
-use frame::Integrity;
 use keys::Keys;
 use messages::open_session::RequestedPrivilege;
 use messages::rakp_1::Username;
 use refusal::Outcome;
+use suite::Confidentiality;
+use suite::Integrity;
 
 mod checking;
 mod keying;

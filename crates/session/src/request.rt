@@ -1,6 +1,6 @@
 // Begin: the open session request.
 ghost use mathlib.Core.Path.{_≡_};
-ghost use Prim.Native.Nat.{ℕ, _≤_};
+ghost use Prim.Native.Nat.{_≤_};
 ghost use lib.ListN.{length};
 ghost use Rattle.refusal.specs.Order.{accept};
 ghost use Rattle.messages.specs.Answers.{tested};

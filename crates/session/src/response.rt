@@ -18,8 +18,6 @@ use crate::Step;
 use crate::Stepped;
 use crate::TAG_1;
 use crate::state;
-use frame::Confidentiality;
-use frame::Integrity;
 use messages::open_session::OpenSessionAnswer;
 use messages::open_session::OpenSessionResponse;
 use messages::rakp::Test;
@@ -27,6 +25,8 @@ use messages::rakp_1::RakpMessage1;
 use messages::rakp_1::Username;
 use refusal::Outcome;
 use refusal::Refusal;
+use suite::Confidentiality;
+use suite::Integrity;
 
 // How many bytes message 1 has before the name.
 const UP_TO_NAME: usize = 28;

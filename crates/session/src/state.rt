@@ -8,13 +8,13 @@ use crate::Begun;
 use crate::Record;
 use crate::Step;
 use crate::Stepped;
-use frame::Confidentiality;
-use frame::Integrity;
-use frame::SubState;
 use keys::Keys;
 use messages::rakp_1::Username;
 use refusal::Outcome;
 use refusal::Refusal;
+use suite::Confidentiality;
+use suite::Integrity;
+use suite::SubState;
 
 // The number of each step, 0 where none is waited for.
 fn number_step(s: Step) -> u8

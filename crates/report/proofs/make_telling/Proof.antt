@@ -1,6 +1,6 @@
 -- `make_telling` keeps its promise: the type by its number, all else as it is.
 use mathlib.Core.Path.{sym, ap}
-use Rattle.frame.specs.Answers.{readTold}
+use Rattle.reader.specs.Answers.{readTold}
 use borrow.Author.Needs.{needs}
 use Rattle.report.proofs.make_telling.Statement.{statement}
 use Rattle.report.proofs.make_telling.Tie as tie

@@ -1,0 +1,5 @@
+pub mod Promised
+pub mod Parts
+pub mod Chained
+pub mod Peek
+pub mod Only

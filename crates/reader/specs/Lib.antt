@@ -1,0 +1,2 @@
+pub mod Uncbc
+pub mod Answers

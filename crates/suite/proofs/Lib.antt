@@ -1,0 +1,4 @@
+pub mod Suites
+pub mod Coded
+pub mod Marked
+pub mod Only

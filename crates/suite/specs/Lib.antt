@@ -1,0 +1,4 @@
+pub mod Types
+pub mod Code
+pub mod Session
+pub mod Told

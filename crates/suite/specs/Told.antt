@@ -1,0 +1,11 @@
+-- What a stage of the reader or of the writer tells (docs/RULES.md, 6.6 and 6.10).
+use Prim.Native.Nat.{ℕ}
+use Rattle.refusal.specs.Table.{numberOf, valueOf}
+use Rattle.refusal.specs.Order.{Res, refuse, accept}
+use Rattle.suite.specs.declared.Step.{Step}
+use Rattle.suite.specs.declared.Step as step
+
+-- a number of bytes, or a refusal
+abbrev pub stepTold : Step → Res ℕ
+stepTold (step.the-variants.Go n) = accept n
+stepTold (step.the-variants.Stop r) = refuse (numberOf r) (valueOf r)

@@ -9,11 +9,11 @@ ghost use Rattle.framing.specs.Packet.{counting};
 ghost use Rattle.framing.specs.Read.{unpadded, decrypted, payloadIn};
 ghost use Rattle.framing.specs.Told.{counted};
 ghost use Rattle.suite.specs.Session.{suiteOf};
-ghost use Rattle.suite.specs.Told.{stepTold};
+ghost use Rattle.suite.specs.Told.{stageTold};
 ghost use Rattle.reader.specs.Uncbc.{uncbc};
 use aes::Aes128;
 use refusal::Refusal;
-use suite::Step;
+use suite::Stage;
 use suite::SubState;
 
 // The block of plain text at `at` of an encrypted body: the inverse cipher of that block, and the block before it added.
@@ -60,9 +60,9 @@ fn decrypt_tail(w: Aes128, body: &[u8], t: usize) -> [u8; 256]
 }
 
 // What stands before the pad of an encrypted body of whole blocks: the pad is looked at before anything changes.
-fn strip_pad(s: SubState, body: &[u8]) -> Step
+fn strip_pad(s: SubState, body: &[u8]) -> Stage
     requires { ⌜ (32 ≤ length (now body)) × (length (now body) % 16 ≡ 0) ⌝ }
-    ensures { λ r. ⌜ stepTold r ≡ counted (unpadded (suiteOf s .dec (take 16 (now (body .entry))) (drop 16 (now (body .entry))))) ⌝ }
+    ensures { λ r. ⌜ stageTold r ≡ counted (unpadded (suiteOf s .dec (take 16 (now (body .entry))) (drop 16 (now (body .entry))))) ⌝ }
 {
     let keys = s.keys;
     let key = keys.aes_key();
@@ -71,41 +71,41 @@ fn strip_pad(s: SubState, body: &[u8]) -> Step
     let last = decrypt_block(w, body, n);
     let p = crate::widen(last[15]);
     if n <= p {
-        return Step::Stop(Refusal::IncorrectConfidentialityTrailerLen);
+        return Stage::Stop(Refusal::IncorrectConfidentialityTrailerLen);
     }
     let t = (p / 16 + 1) * 16;
     let tail = decrypt_tail(w, body, t);
     if !check_pad(&tail, t - 1 - p, p) {
-        return Step::Stop(Refusal::InvalidConfidentialityTrailer);
+        return Stage::Stop(Refusal::InvalidConfidentialityTrailer);
     }
-    Step::Go(n - 1 - p)
+    Stage::Go(n - 1 - p)
 }
 
 // An encrypted body: the IV, then whole blocks, at least one.
-fn read_encrypted(s: SubState, body: &[u8]) -> Step
-    ensures { λ r. ⌜ stepTold r ≡ counted (decrypted (suiteOf s) (now (body .entry))) ⌝ }
+fn read_encrypted(s: SubState, body: &[u8]) -> Stage
+    ensures { λ r. ⌜ stageTold r ≡ counted (decrypted (suiteOf s) (now (body .entry))) ⌝ }
 {
     if body.len() < 16 {
-        return Step::Stop(Refusal::NotEnoughData);
+        return Stage::Stop(Refusal::NotEnoughData);
     }
     let n = body.len() - 16;
     if n % 16 != 0 {
-        return Step::Stop(Refusal::NotWholeBlocks);
+        return Stage::Stop(Refusal::NotWholeBlocks);
     }
     if n == 0 {
-        return Step::Stop(Refusal::IncorrectConfidentialityTrailerLen);
+        return Stage::Stop(Refusal::IncorrectConfidentialityTrailerLen);
     }
     strip_pad(s, body)
 }
 
 // Without AES the body is the payload.
-pub(crate) fn read_body(s: SubState, body: &[u8]) -> Step
-    ensures { λ r. ⌜ stepTold r ≡ counted (payloadIn (suiteOf s) (now (body .entry))) ⌝ }
+pub(crate) fn read_body(s: SubState, body: &[u8]) -> Stage
+    ensures { λ r. ⌜ stageTold r ≡ counted (payloadIn (suiteOf s) (now (body .entry))) ⌝ }
 {
     let c = s.confidentiality;
     if suite::encrypts(c) {
         read_encrypted(s, body)
     } else {
-        Step::Go(body.len())
+        Stage::Go(body.len())
     }
 }

@@ -11,12 +11,12 @@ ghost use Rattle.framing.specs.Read.{readWith, readOf, hasCode, blocksWith, blo
 ghost use Rattle.framing.specs.Told.{counted};
 ghost use Rattle.suite.specs.Types.{typeNumber};
 ghost use Rattle.suite.specs.Session.{suiteOf};
-ghost use Rattle.suite.specs.Told.{stepTold};
+ghost use Rattle.suite.specs.Told.{stageTold};
 ghost use Rattle.reader.specs.Answers.{headTold, Tells};
 use refusal::Refusal;
 use suite::Code;
 use suite::PayloadType;
-use suite::Step;
+use suite::Stage;
 use suite::SubState;
 
 mod body;
@@ -97,66 +97,66 @@ pub(crate) fn widen(x: u8) -> usize
 }
 
 // How many bytes are left before the trailer, given the code that the packet ought to end with.
-fn check_trailer(s: SubState, code: &[u8], packet: &[u8]) -> Step
-    ensures { λ r. ⌜ stepTold r ≡ trailerOf (suiteOf s) (now (code .entry)) (now (packet .entry)) ⌝ }
+fn check_trailer(s: SubState, code: &[u8], packet: &[u8]) -> Stage
+    ensures { λ r. ⌜ stageTold r ≡ trailerOf (suiteOf s) (now (code .entry)) (now (packet .entry)) ⌝ }
 {
     let i = s.integrity;
     let m = suite::code_len(i);
     if packet.len() < m {
-        return Step::Stop(Refusal::IncorrectIntegrityTrailerLen);
+        return Stage::Stop(Refusal::IncorrectIntegrityTrailerLen);
     }
     let k = packet.len() - m;
     if !octets::same(&packet[k..], code) {
-        return Step::Stop(Refusal::AuthCodeMismatch);
+        return Stage::Stop(Refusal::AuthCodeMismatch);
     }
     if k < 2 {
-        return Step::Stop(Refusal::IncorrectIntegrityTrailerLen);
+        return Stage::Stop(Refusal::IncorrectIntegrityTrailerLen);
     }
     let next = packet[k - 1];
     if next != 0x07 {
-        return Step::Stop(Refusal::UnknownNextHeader(next));
+        return Stage::Stop(Refusal::UnknownNextHeader(next));
     }
     let q = widen(packet[k - 2]);
     if k - 2 < q {
-        return Step::Go(0);
+        return Stage::Go(0);
     }
-    Step::Go(k - 2 - q)
+    Stage::Go(k - 2 - q)
 }
 
 // Without integrity there is no trailer.
-fn strip_trailer(s: SubState, code: &[u8], packet: &[u8]) -> Step
-    ensures { λ r. ⌜ stepTold r ≡ beforeTrailer (suiteOf s) (now (code .entry)) (now (packet .entry)) ⌝ }
+fn strip_trailer(s: SubState, code: &[u8], packet: &[u8]) -> Stage
+    ensures { λ r. ⌜ stageTold r ≡ beforeTrailer (suiteOf s) (now (code .entry)) (now (packet .entry)) ⌝ }
 {
     let i = s.integrity;
     if suite::carries_code(i) {
         check_trailer(s, code, packet)
     } else {
-        Step::Go(packet.len())
+        Stage::Go(packet.len())
     }
 }
 
 // Header and body, once the trailer is off: the payload's length.
-fn check_body(s: SubState, left: &[u8]) -> Step
-    ensures { λ r. ⌜ stepTold r ≡ counted (bodyIn (suiteOf s) (now (left .entry))) ⌝ }
+fn check_body(s: SubState, left: &[u8]) -> Stage
+    ensures { λ r. ⌜ stageTold r ≡ counted (bodyIn (suiteOf s) (now (left .entry))) ⌝ }
 {
     if left.len() < 12 {
-        return Step::Stop(Refusal::NotEnoughData);
+        return Stage::Stop(Refusal::NotEnoughData);
     }
     let n = octets::load_le2(left, 10) as usize;
     if n != left.len() - 12 {
-        return Step::Stop(Refusal::IncorrectPayloadLen);
+        return Stage::Stop(Refusal::IncorrectPayloadLen);
     }
     body::read_body(s, &left[12..])
 }
 
 // The payload's length behind the head, given the code that the packet ought to end with.
-fn find_payload(s: SubState, code: &[u8], packet: &[u8]) -> Step
-    ensures { λ r. ⌜ stepTold r ≡ counted (payloadBehind (suiteOf s) (now (code .entry)) (now (packet .entry))) ⌝ }
+fn find_payload(s: SubState, code: &[u8], packet: &[u8]) -> Stage
+    ensures { λ r. ⌜ stageTold r ≡ counted (payloadBehind (suiteOf s) (now (code .entry)) (now (packet .entry))) ⌝ }
 {
     let t = strip_trailer(s, code, packet);
     match t {
-        Step::Stop(_) => t,
-        Step::Go(n) => check_body(s, &packet[..n]),
+        Stage::Stop(_) => t,
+        Stage::Go(n) => check_body(s, &packet[..n]),
     }
 }
 
@@ -166,11 +166,11 @@ fn read_rest(s: SubState, ty: PayloadType, code: &[u8], blocks: u32, packet: &[u
 {
     let f = find_payload(s, code, packet);
     match f {
-        Step::Stop(r) => Read {
+        Stage::Stop(r) => Read {
             answer: Reading::Refused(r),
             blocks,
         },
-        Step::Go(len) => {
+        Stage::Go(len) => {
             let session_id = octets::load_le4(packet, 2);
             let session_sequence_number = octets::load_le4(packet, 6);
             Read {

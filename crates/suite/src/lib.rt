@@ -62,7 +62,7 @@ pub struct SubState {
 pub const OUTER: [u8; 4] = *b"\x06\x00\xff\x07";
 
 // What a stage hands to the next: a number of bytes, or the refusal that ends it.
-pub enum Step {
+pub enum Stage {
     Go(usize),
     Stop(Refusal),
 }

@@ -10,13 +10,13 @@ ghost use Rattle.cbc.specs.Cbc.{cbcEncrypt};
 ghost use Rattle.framing.specs.Packet.{headerOf, counting, plainOf};
 ghost use Rattle.framing.specs.Write.{leastP, leastQ, bodySize, packetSize, roomOf, longestPayload, ourBody, ourPads, ours};
 ghost use Rattle.suite.specs.Session.{suiteOf};
-ghost use Rattle.suite.specs.Told.{stepTold};
+ghost use Rattle.suite.specs.Told.{stageTold};
 ghost use Rattle.writer.specs.Answers.{WritePromise};
 ghost use Rattle.framing.specs.Outer.{writeOf, writeDatagramOf};
 use refusal::Refusal;
 use suite::Confidentiality;
 use suite::PayloadType;
-use suite::Step;
+use suite::Stage;
 use suite::SubState;
 
 // What writing answers: the length of what was written, or a refusal.
@@ -74,22 +74,22 @@ fn find_longest_payload(c: Confidentiality) -> usize
 }
 
 // The writer's refusals, for a payload of n bytes behind `before` others.
-fn check_room(s: SubState, n: usize, before: usize, room: usize) -> Step
+fn check_room(s: SubState, n: usize, before: usize, room: usize) -> Stage
     requires { ⌜ before ≤ 4 ⌝ }
-    ensures { λ r. ⌜ stepTold r ≡ roomOf (suiteOf s) before n room ⌝ }
+    ensures { λ r. ⌜ stageTold r ≡ roomOf (suiteOf s) before n room ⌝ }
 {
     if n > 65535 {
-        return Step::Stop(Refusal::PayloadTooLong);
+        return Stage::Stop(Refusal::PayloadTooLong);
     }
     let c = s.confidentiality;
     if find_longest_payload(c) < n {
-        return Step::Stop(Refusal::EncryptedPayloadTooLong);
+        return Stage::Stop(Refusal::EncryptedPayloadTooLong);
     }
     let size = before + measure_packet(s, n);
     if room < size {
-        return Step::Stop(Refusal::OutputTooShort);
+        return Stage::Stop(Refusal::OutputTooShort);
     }
-    Step::Go(size)
+    Stage::Go(size)
 }
 
 // The twelve bytes before a body of n bytes.
@@ -102,19 +102,22 @@ fn make_header(s: SubState, ty: PayloadType, id: u32, seq: u32, n: usize) -> [u8
     let flags = 128 * suite::make_bit(suite::encrypts(c))
         + 64 * suite::make_bit(suite::carries_code(i))
         + ty.number();
+    let d = octets::le4(id);
+    let q = octets::le4(seq);
+    let k = octets::le2(n as u16);
     [
         0x06,
         flags,
-        (id % 256) as u8,
-        (id / 256 % 256) as u8,
-        (id / 256 / 256 % 256) as u8,
-        (id / 256 / 256 / 256 % 256) as u8,
-        (seq % 256) as u8,
-        (seq / 256 % 256) as u8,
-        (seq / 256 / 256 % 256) as u8,
-        (seq / 256 / 256 / 256 % 256) as u8,
-        (n % 256) as u8,
-        (n / 256 % 256) as u8,
+        d[0],
+        d[1],
+        d[2],
+        d[3],
+        q[0],
+        q[1],
+        q[2],
+        q[3],
+        k[0],
+        k[1],
     ]
 }
 
@@ -233,8 +236,8 @@ pub fn write_payload(
 {
     let t = check_room(s, payload.len(), 0, out.len());
     match t {
-        Step::Stop(r) => Written::Refused(r),
-        Step::Go(n) => {
+        Stage::Stop(r) => Written::Refused(r),
+        Stage::Go(n) => {
             write_packet(s, ty, id, seq, payload, iv, out);
             Written::Length(n)
         }
@@ -256,8 +259,8 @@ pub fn write_datagram(
 {
     let t = check_room(s, payload.len(), 4, out.len());
     match t {
-        Step::Stop(r) => Written::Refused(r),
-        Step::Go(n) => {
+        Stage::Stop(r) => Written::Refused(r),
+        Stage::Go(n) => {
             let outer = suite::OUTER;
             octets::put(out, 0, &outer);
             write_packet(s, ty, id, seq, payload, iv, &mut out[4..]);

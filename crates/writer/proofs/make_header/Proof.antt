@@ -1,9 +1,9 @@
--- `make_header` keeps its promise: the bytes of the literal are the definition's.
-use Prim.Native.Nat.{ℕ, _+_, _*_}
+-- `make_header` keeps its promise: two bytes, then the bytes of the three numbers.
+use Prim.Native.Nat.{_+_, _*_}
 use native.Mathlib.Omega.{arith}
-use mathlib.Core.List.{_∷_, _++_}
+use mathlib.Core.List.{[], _∷_}
 use mathlib.Core.Path.{ap, _∙_}
-use Rattle.octets.specs.Number.{le}
+use lib.ListN.{getD}
 use Rattle.framing.specs.Packet.{bit, headerOf}
 use Rattle.framing.proofs.Tests.{bit-small}
 use borrow.Author.Needs.{needs}
@@ -33,12 +33,26 @@ returns : tie.Need-returns
 unfolding headerOf
 returns c =
     let c4 = c .before .before .before .before in
-    let c5 = c4 .before in
-    let a = c5 .args in
-    let seven = c .before .before .before .make-bit .ensures ∙ ap bit (c4 .encrypts .ensures) in
-    let six = c .before .make-bit2 .ensures ∙ ap bit (c .before .before .carries-code .ensures) in
-    ap (λ (f : ℕ). 0x06 ∷ f ∷ (le 4 (a .id) ++ (le 4 (a .seq) ++ le 2 (a .n))))
-    (λ i. 128 * seven i + 64 * six i + (c .number .ensures .0) i)
+    let c7 = c4 .before .before .before in
+    let seven = c4 .before .before .make-bit .ensures ∙ ap bit (c7 .encrypts .ensures) in
+    let six = c4 .make-bit2 .ensures ∙ ap bit (c4 .before .carries-code .ensures) in
+    let ty = c .before .before .before .number .ensures .0 in
+    let d = c .before .before .le4 .ensures in
+    let q = c .before .le42 .ensures in
+    let k = c .le2 .ensures in
+    λ i. 0x06
+    ∷ (128 * seven i + 64 * six i + ty i)
+    ∷ getD (d i) 0 0
+    ∷ getD (d i) 1 0
+    ∷ getD (d i) 2 0
+    ∷ getD (d i) 3 0
+    ∷ getD (q i) 0 0
+    ∷ getD (q i) 1 0
+    ∷ getD (q i) 2 0
+    ∷ getD (q i) 3 0
+    ∷ getD (k i) 0 0
+    ∷ getD (k i) 1 0
+    ∷ []
 
 pub make-header-spec : {M : Type 1} → statement M
 make-header-spec =
@@ -53,6 +67,10 @@ make-header-spec =
     add-flags
     (λ c κs. search needs)
     add-flags-2
+    (λ c κs. search needs)
+    (λ c κs. search needs)
+    (λ c. search needs)
+    (λ c κs. search needs)
     (λ c. search needs)
     (λ c. search needs)
     (λ c. search needs)

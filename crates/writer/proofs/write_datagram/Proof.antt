@@ -5,7 +5,7 @@ use native.Mathlib.Omega.{arith}
 use mathlib.Core.Path.{_≡_, ap, sym, _∙_}
 use lib.ListN.{length}
 use Rattle.framing.specs.Outer.{outer, writeDatagramOf}
-use Rattle.suite.specs.Told.{stepTold}
+use Rattle.suite.specs.Told.{stageTold}
 use Rattle.suite.specs.Session.{suiteOf}
 use Rattle.suite.proofs.Suites.{suite-lengths}
 use Rattle.framing.proofs.Writes.{room-inv, write-no, write-yes, datagram-written}
@@ -24,7 +24,7 @@ sub-write-packet c =
     let c11 = c8 .before .before .before in
     let a = c11 .args in
     let e = room-inv (suiteOf (a .s)) 4 (length (a .payload .now)) (length (a .out .now)) _
-    (sym (c8 .check-room .ensures) ∙ ap stepTold (c6 .t2 .given .1)) in
+    (sym (c8 .check-room .ensures) ∙ ap stageTold (c6 .t2 .given .1)) in
     omega (arith, e .1, c .before .before .put .kept .0)
 
 part-write-packet-start : tie.Need-part-write-packet-start
@@ -37,7 +37,7 @@ write-packet-requires c κs =
     let c12 = c9 .before .before .before in
     let a = c12 .args in
     let e = room-inv (suiteOf (a .s)) 4 (length (a .payload .now)) (length (a .out .now)) _
-    (sym (c9 .check-room .ensures) ∙ ap stepTold (c7 .t2 .given .1)) in
+    (sym (c9 .check-room .ensures) ∙ ap stageTold (c7 .t2 .given .1)) in
     let d = c .before .before .before .put .last .0 in
     (e .0, omega (arith, e .1, c .before .before .before .put .kept .0, ap length (to-end (length d) 4 d (omega arith)), length-drop 4 d))
 
@@ -45,7 +45,7 @@ returns : tie.Need-returns
 unfolding writeDatagramOf
 returns c =
     writes _ _ _ _
-    (write-no _ _ _ outer _ _ (c .before .before .before .check-room .ensures) _ _ (ap stepTold (c .before .t .given .1)))
+    (write-no _ _ _ outer _ _ (c .before .before .before .check-room .ensures) _ _ (ap stageTold (c .before .t .given .1)))
 
 returns-2 : tie.Need-returns-2
 unfolding writeDatagramOf
@@ -56,10 +56,10 @@ returns-2 c =
     let c15 = c12 .before .before .before in
     let a = c15 .args in
     let e = room-inv (suiteOf (a .s)) 4 (length (a .payload .now)) (length (a .out .now)) _
-    (sym (c12 .check-room .ensures) ∙ ap stepTold (c10 .t2 .given .1)) in
+    (sym (c12 .check-room .ensures) ∙ ap stageTold (c10 .t2 .given .1)) in
     writes _ _ _ _
     (write-yes (suiteOf (a .s)) _ (a .iv) outer _ _ (c12 .check-room .ensures) (suite-lengths (a .s)) (iv-size c15) _ _
-    (ap stepTold (c10 .t2 .given .1))
+    (ap stageTold (c10 .t2 .given .1))
     (datagram-written (a .out .now) _ _ _ _ (omega (arith, e .1)) (c6 .put .ensures) (c .before .before .write-packet .ensures)))
 
 pub write-datagram-spec : {M : Type 1} → statement M

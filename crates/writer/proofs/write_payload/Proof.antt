@@ -4,7 +4,7 @@ use mathlib.Core.List.{[]}
 use mathlib.Core.Path.{_≡_, ap, sym, _∙_}
 use lib.ListN.{length}
 use Rattle.framing.specs.Outer.{writeOf}
-use Rattle.suite.specs.Told.{stepTold}
+use Rattle.suite.specs.Told.{stageTold}
 use Rattle.suite.specs.Session.{suiteOf}
 use Rattle.suite.proofs.Suites.{suite-lengths}
 use Rattle.framing.proofs.Writes.{room-inv, write-no, write-yes}
@@ -22,14 +22,14 @@ write-packet-requires c κs =
     let c7 = c4 .before .before .before in
     let a = c7 .args in
     let e = room-inv (suiteOf (a .s)) 0 (length (a .payload .now)) (length (a .out .now)) _
-    (sym (c4 .check-room .ensures) ∙ ap stepTold (c .before .before .t2 .given .1)) in
+    (sym (c4 .check-room .ensures) ∙ ap stageTold (c .before .before .t2 .given .1)) in
     (e .0, omega (arith, e .1))
 
 returns : tie.Need-returns
 unfolding writeOf
 returns c =
     writes _ _ _ _
-    (write-no _ _ _ [] _ _ (c .before .before .before .check-room .ensures) _ _ (ap stepTold (c .before .t .given .1)))
+    (write-no _ _ _ [] _ _ (c .before .before .before .check-room .ensures) _ _ (ap stageTold (c .before .t .given .1)))
 
 returns-2 : tie.Need-returns-2
 unfolding writeOf
@@ -40,7 +40,7 @@ returns-2 c =
     let a = c10 .args in
     writes _ _ _ _
     (write-yes (suiteOf (a .s)) _ (a .iv) [] _ _ (c7 .check-room .ensures) (suite-lengths (a .s)) (iv-size c10) _ _
-    (ap stepTold (c5 .t2 .given .1)) (c .before .before .write-packet .ensures))
+    (ap stageTold (c5 .t2 .given .1)) (c .before .before .write-packet .ensures))
 
 pub write-payload-spec : {M : Type 1} → statement M
 write-payload-spec =

@@ -7,46 +7,37 @@ use borrow.Author.Tests.{eqb-true}
 use Rattle.refusal.specs.Order.{Res, refuse, accept}
 use Rattle.refusal.specs.Table.{numberOf, valueOf}
 use Rattle.refusal.specs.declared.Refusal.{Refusal}
-use Rattle.refusal.proofs.Order.{need-inv, then-inv, accept-inj, refuse≢accept}
+use Rattle.refusal.proofs.Order.{need-inv, then-inv, accept-inj, refuse≢accept, done-no}
 use Rattle.messages.specs.Name.{stored}
 use Rattle.messages.specs.OpenSession.{Response, openChecked, openResponse}
 use Rattle.messages.specs.Rakp.{fields2, message2, fields4, message4}
-use Rattle.messages.specs.Answers.{tested}
+use Rattle.refusal.specs.Outcome.{told}
 use Rattle.messages.specs.Promises.{NamePromise, ReadPromise2}
-use Rattle.messages.specs.declared.rakp.Test.the-variants.{Passed, Refused}
+use Rattle.refusal.specs.declared.Outcome.the-variants.{Done, Refused}
 use Rattle.messages.specs.declared.«rakp_1».UsernameAnswer.{UsernameAnswer}
 use Rattle.messages.specs.declared.«rakp_2».RakpMessage2.{RakpMessage2}
 use Rattle.messages.specs.declared.«rakp_2».RakpAnswer2.{RakpAnswer2}
 use Rattle.messages.specs.declared.«rakp_4».RakpMessage4.{RakpMessage4}
 use Rattle.messages.proofs.Reading.{checked-size}
 
--- a refusal in another order of refusals
-refuse-in : {A : Type 0} (n v k w : ℕ) → _≡_ {A = Res ℕ} (refuse n v) (refuse k w) → _≡_ {A = Res A} (refuse n v) (refuse k w)
-refuse-in n v k w e =
-    let a : n ≡ k = cc in
-    let b : v ≡ w = cc in
-    rw (a, b)
-
 -- message 2: what passed was accepted, as the message that is handed out
-pub passed-2 : (R : Res RakpMessage2) (r : RakpAnswer2) → ReadPromise2 R r → r .answer ≡ Passed → R ≡ accept (r .message)
-passed-2 (refuse n v) r p g = absurd (refuse≢accept n v 0 (sym (p .answer) ∙ ap tested g))
+pub passed-2 : (R : Res RakpMessage2) (r : RakpAnswer2) → ReadPromise2 R r → r .answer ≡ Done → R ≡ accept (r .message)
+passed-2 (refuse n v) r p g = absurd (refuse≢accept n v tt (sym (p .answer) ∙ ap told g))
 passed-2 (accept m) r p g = ap accept (sym (p .message))
 
 pub refused-2 : (R : Res RakpMessage2) (r : RakpAnswer2) (q : Refusal) → ReadPromise2 R r → r .answer ≡ Refused q
     → R ≡ refuse (numberOf q) (valueOf q)
-refused-2 (refuse n v) r q p g = refuse-in n v _ _ (sym (p .answer) ∙ ap tested g)
-refused-2 (accept m) r q p g = absurd (refuse≢accept _ _ 0 (sym (sym (p .answer) ∙ ap tested g)))
+refused-2 R r q p g = done-no R _ _ (sym (p .answer) ∙ ap told g)
 
 -- a name: what passed was accepted, and is stored
-pub passed-name : (R : Res (List ℕ)) (r : UsernameAnswer) → NamePromise R r → r .answer ≡ Passed
+pub passed-name : (R : Res (List ℕ)) (r : UsernameAnswer) → NamePromise R r → r .answer ≡ Done
     → (n : List ℕ) × (R ≡ accept n) × (r .username ≡ stored n)
-passed-name (refuse n v) r p g = absurd (refuse≢accept n v 0 (sym (p .answer) ∙ ap tested g))
+passed-name (refuse n v) r p g = absurd (refuse≢accept n v tt (sym (p .answer) ∙ ap told g))
 passed-name (accept l) r p g = (l, refl, p .name)
 
 pub refused-name : (R : Res (List ℕ)) (r : UsernameAnswer) (q : Refusal) → NamePromise R r → r .answer ≡ Refused q
     → R ≡ refuse (numberOf q) (valueOf q)
-refused-name (refuse n v) r q p g = refuse-in n v _ _ (sym (p .answer) ∙ ap tested g)
-refused-name (accept l) r q p g = absurd (refuse≢accept _ _ 0 (sym (sym (p .answer) ∙ ap tested g)))
+refused-name R r q p g = done-no R _ _ (sym (p .answer) ∙ ap told g)
 
 -- what an accepted message is, and how long at least
 pub found-2 : (m : List ℕ) (f : RakpMessage2) → message2 m ≡ accept f → (f ≡ fields2 m) × (40 ≤ length m)

@@ -9,15 +9,15 @@ use lib.Dec.{eqb, ltb}
 use lib.ListN.{length, getD, take, drop, replicate, drop-of-length-le}
 use lib.Seq.{drop-cons, take-all, length-take-le}
 use borrow.Author.Tests.{eq-eqb, ne-eqb, lt-ltb, le-ltb}
-use Rattle.refusal.specs.Order.{Res, refuse, accept}
+use Rattle.refusal.specs.Order.{Res, refuse, accept, done}
 use Rattle.refusal.specs.declared.Refusal.the-variants.{InvalidUsername}
 use Rattle.refusal.proofs.Order.{pass, need-no}
 use Rattle.octets.specs.Place.{filled}
 use Rattle.octets.specs.Promise.{PutPromise}
 use Rattle.octets.proofs.Filled.{put-filled}
 use Rattle.messages.specs.Name.{allowed, usernameOf, nameOf, stored}
-use Rattle.messages.specs.Promises.{NamePromise, verdict, heldName}
-use Rattle.messages.specs.declared.rakp.Test.the-variants.{Passed, Refused}
+use Rattle.messages.specs.Promises.{NamePromise, heldName}
+use Rattle.refusal.specs.declared.Outcome.the-variants.{Done, Refused}
 use Rattle.messages.specs.declared.«rakp_1».Username.{Username}
 
 -- the bytes are tested from the first on: those that are left matter
@@ -71,10 +71,10 @@ module _ (l : List ℕ) (n : ℕ) (e : take 16 l ≡ take n l) (t : Bool) (f : t
   unfolding usernameOf stored
   name-no g =
       let r : usernameOf l ≡ refuse 34 0 = need-no _ _ _ _ (whole ∙ g) in
-      record { answer = sym (ap verdict r); name = sym (ap (λ (x : Res (List ℕ)). stored (heldName x)) r) }
+      record { answer = sym (ap done r); name = sym (ap (λ (x : Res (List ℕ)). stored (heldName x)) r) }
 
   pub name-yes : (x : List ℕ) (r : Bool) → t ≡ true → n ≤ length l → n ≤ 16 → PutPromise (replicate 16 0) 0 (take n l) r x
-      → NamePromise (usernameOf l) (record { answer = Passed; username = record { bytes = x; len = n } })
+      → NamePromise (usernameOf l) (record { answer = Done; username = record { bytes = x; len = n } })
   unfolding usernameOf stored filled
   name-yes x r g h k p =
       let a : length (take n l) ≡ n = length-take-le n l h in
@@ -85,4 +85,4 @@ module _ (l : List ℕ) (n : ℕ) (e : take 16 l ≡ take n l) (t : Bool) (f : t
       let m : _≡_ {A = Username} (record { bytes = x; len = n }) (stored (take n l)) =
       ap₂ made b (sym a)
       in
-      record { answer = sym (ap verdict s); name = m ∙ sym (ap (λ (y : Res (List ℕ)). stored (heldName y)) s) }
+      record { answer = sym (ap done s); name = m ∙ sym (ap (λ (y : Res (List ℕ)). stored (heldName y)) s) }

@@ -2,15 +2,14 @@
 -- the lent output.
 use Prim.Native.Nat.{ℕ}
 use mathlib.Core.List.{List}
-use mathlib.Core.Path.{_≡_, refl, sym, _∙_, ap, ap₂}
+use mathlib.Core.Path.{_≡_, sym, _∙_, ap, ap₂}
 use denote.Ref.{now}
 use Rattle.refusal.specs.Order.{Res}
 use Rattle.refusal.proofs.Order.{refuse≢accept, accept-inj}
-use Rattle.refusal.proofs.Told.{refused-one}
-use Rattle.messages.specs.Answers.{tested, toldWritten, toldBlock, toldOpen, told4}
+use Rattle.refusal.proofs.Told.{refused-one, outcome-one}
+use Rattle.messages.specs.Answers.{toldWritten, toldBlock, toldOpen, told4}
 use Rattle.messages.specs.Promises.{WritePromise, NamePromise, ReadPromise2}
-use Rattle.messages.specs.declared.rakp.Test.{Test}
-use Rattle.messages.specs.declared.rakp.Test.the-variants as test
+use Rattle.refusal.specs.declared.Outcome.{Outcome}
 use Rattle.messages.specs.declared.rakp.Written.{Written}
 use Rattle.messages.specs.declared.rakp.Written.the-variants as written
 use Rattle.messages.specs.declared.«open_session».BlockAnswer.{BlockAnswer}
@@ -38,12 +37,6 @@ use Rattle.messages.proofs.«rakp_2».RakpMessage2.«from_data».Reads 
 use Rattle.messages.proofs.«rakp_3».RakpMessage3.write.Reads as message3-reads
 use Rattle.messages.proofs.«rakp_3».RakpMessage3.decline.Reads as declined-reads
 use Rattle.messages.proofs.«rakp_4».RakpMessage4.«from_data».Reads as message4-reads
-
-tested-one : (a b : Test) → tested a ≡ tested b → a ≡ b
-tested-one test.Passed test.Passed e = refl
-tested-one test.Passed (test.Refused s) e = absurd (refuse≢accept _ _ _ (sym e))
-tested-one (test.Refused r) test.Passed e = absurd (refuse≢accept _ _ _ e)
-tested-one (test.Refused r) (test.Refused s) e = ap test.Refused (refused-one {A = ℕ} r s e)
 
 written-one : (a b : Written) → toldWritten a ≡ toldWritten b → a ≡ b
 written-one (written.Bytes m) (written.Bytes n) e = ap written.Bytes (accept-inj m n e)
@@ -73,19 +66,19 @@ write-one : (bytes out : List ℕ) (a b : Written) (x y : List ℕ) → WritePro
     → (a ≡ b) × (x ≡ y)
 write-one bytes out a b x y p q = (written-one a b (p .answer ∙ sym (q .answer)), p .buffer ∙ sym (q .buffer))
 
-abbrev named : Test → Username → UsernameAnswer
+abbrev named : Outcome → Username → UsernameAnswer
 named t u = record { answer = t; username = u }
 
 name-one : (R : Res (List ℕ)) (a b : UsernameAnswer) → NamePromise R a → NamePromise R b → a ≡ b
 name-one R a b p q =
-    ap₂ named (tested-one (a .answer) (b .answer) (p .answer ∙ sym (q .answer))) (p .name ∙ sym (q .name))
+    ap₂ named (outcome-one (a .answer) (b .answer) (p .answer ∙ sym (q .answer))) (p .name ∙ sym (q .name))
 
-abbrev answered : Test → RakpMessage2 → RakpAnswer2
+abbrev answered : Outcome → RakpMessage2 → RakpAnswer2
 answered t m = record { answer = t; message = m }
 
 two-one : (R : Res RakpMessage2) (a b : RakpAnswer2) → ReadPromise2 R a → ReadPromise2 R b → a ≡ b
 two-one R a b p q =
-    ap₂ answered (tested-one (a .answer) (b .answer) (p .answer ∙ sym (q .answer))) (p .message ∙ sym (q .message))
+    ap₂ answered (outcome-one (a .answer) (b .answer) (p .answer ∙ sym (q .answer))) (p .message ∙ sym (q .message))
 
 -- the calls
 

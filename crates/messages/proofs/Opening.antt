@@ -17,10 +17,11 @@ use Rattle.messages.specs.Auth.{isLevel}
 use Rattle.messages.specs.Status.{statusNumber, namesOpen}
 use Rattle.messages.specs.Block.{Block, blockOf, ofType, numbers, bytesOf}
 use Rattle.messages.specs.OpenSession.{levelByte, openRequest, Response, openChecked, openNumbers, openFields, openResponse}
-use Rattle.messages.specs.Answers.{tested, toldBlock}
+use Rattle.refusal.specs.Outcome.{told}
+use Rattle.messages.specs.Answers.{toldBlock}
 use Rattle.messages.specs.Promises.{WritePromise}
-use Rattle.messages.specs.declared.rakp.Test.{Test}
-use Rattle.messages.specs.declared.rakp.Test.the-variants as test
+use Rattle.refusal.specs.declared.Outcome.{Outcome}
+use Rattle.refusal.specs.declared.Outcome.the-variants as outcome
 use Rattle.messages.specs.declared.rakp.Written.the-variants as written
 use Rattle.messages.specs.declared.«open_session».AlgorithmPayload.{AlgorithmPayload}
 use Rattle.messages.specs.declared.«open_session».AlgorithmPayload.the-variants.{Authentication, Integrity, Confidentiality}
@@ -111,7 +112,7 @@ module _ (m : List ℕ) where
                 (pass _ _ _ _ (sym f ∙ z)
                 (pass _ _ _ _ (ap not (ne-eqb _ 0 y)) (need-no _ _ _ _ (ap not (eq-eqb _ 0 x))))))))
 
-            pub open-passed : (unle (part m 8 4) ≡ 0 → ⊥) → accept 0 ≡ openChecked m
+            pub open-passed : (unle (part m 8 4) ≡ 0 → ⊥) → accept tt ≡ openChecked m
             unfolding openChecked
             open-passed x =
                 sym
@@ -122,12 +123,12 @@ module _ (m : List ℕ) where
                 (pass _ _ _ _ (ap not (ne-eqb _ 0 y)) (pass _ _ _ _ (ap not (ne-eqb _ 0 x)) refl))))))
 
 -- the response: the tests, then the blocks
-module _ (m : List ℕ) (t : Test) (e : tested t ≡ openChecked m) where
-  pub response-no : (r : Refusal) → t ≡ test.Refused r → refuse (numberOf r) (valueOf r) ≡ openResponse m
+module _ (m : List ℕ) (t : Outcome) (e : told t ≡ openChecked m) where
+  pub response-no : (r : Refusal) → t ≡ outcome.Refused r → refuse (numberOf r) (valueOf r) ≡ openResponse m
   unfolding openResponse
   response-no r g = sym (then-refuse _ _ _ _ (test-refused t _ r e g))
 
-  module _ (g : t ≡ test.Passed) where
+  module _ (g : t ≡ outcome.Done) where
     pub response-size : length m ≡ 36
     unfolding openChecked
     response-size =

@@ -4,29 +4,28 @@ use mathlib.Core.List.{List}
 use mathlib.Core.Path.{_≡_, sym, _∙_, ap}
 use lib.ListN.{length}
 use borrow.Author.Tests.{leb-true}
-use Rattle.refusal.specs.Order.{Res, refuse, accept}
+use Rattle.refusal.specs.Order.{Res, refuse, accept, done}
 use Rattle.refusal.specs.Table.{numberOf, valueOf}
 use Rattle.refusal.specs.declared.Refusal.{Refusal}
 use Rattle.refusal.proofs.Order.{need-inv, then-refuse, then-accept}
 use Rattle.messages.specs.Status.{names2, names4}
 use Rattle.messages.specs.Rakp.{checked, statusAt2, fields2, none2, message2, fields4, message4}
-use Rattle.messages.specs.Answers.{tested}
-use Rattle.messages.specs.Promises.{verdict, held2, ReadPromise2}
-use Rattle.messages.specs.declared.rakp.Test.{Test}
-use Rattle.messages.specs.declared.rakp.Test.the-variants.{Passed, Refused}
+use Rattle.refusal.specs.Outcome.{told}
+use Rattle.messages.specs.Promises.{held2, ReadPromise2}
+use Rattle.refusal.specs.declared.Outcome.{Outcome}
+use Rattle.refusal.specs.declared.Outcome.the-variants.{Done, Refused}
 use Rattle.messages.specs.declared.«rakp_2».RakpMessage2.{RakpMessage2}
 use Rattle.messages.specs.declared.«rakp_4».RakpMessage4.{RakpMessage4}
 
 -- a row of tests that passed, or that gave a refusal
-pub test-passed : (t : Test) (R : Res ℕ) → tested t ≡ R → t ≡ Passed → R ≡ accept 0
-test-passed t R e g = sym e ∙ ap tested g
+pub test-passed : (t : Outcome) (R : Res Unit) → told t ≡ R → t ≡ Done → R ≡ accept tt
+test-passed t R e g = sym e ∙ ap told g
 
-pub test-refused : (t : Test) (R : Res ℕ) (r : Refusal) → tested t ≡ R → t ≡ Refused r → R ≡ refuse (numberOf r) (valueOf r)
-test-refused t R r e g = sym e ∙ ap tested g
+pub test-refused : (t : Outcome) (R : Res Unit) (r : Refusal) → told t ≡ R → t ≡ Refused r → R ≡ refuse (numberOf r) (valueOf r)
+test-refused t R r e g = sym e ∙ ap told g
 
 -- what the tests have shown of the length
-pub checked-size : (at : ℕ) (names : List ℕ) (fixed n v : ℕ) (m : List ℕ) {a : ℕ} → checked at names fixed n v m ≡ accept a
-    → fixed ≤ length m
+pub checked-size : (at : ℕ) (names : List ℕ) (fixed n v : ℕ) (m : List ℕ) → checked at names fixed n v m ≡ accept tt → fixed ≤ length m
 unfolding checked
 checked-size at names fixed n v m e =
     let a = need-inv _ _ _ _ e in
@@ -34,27 +33,27 @@ checked-size at names fixed n v m e =
     let d = need-inv _ _ _ _ (b .1) in
     leb-true _ _ (d .0)
 
-module _ (m : List ℕ) (t : Test) where
-  module _ (e : tested t ≡ checked statusAt2 names2 40 20 0 m) where
+module _ (m : List ℕ) (t : Outcome) where
+  module _ (e : told t ≡ checked statusAt2 names2 40 20 0 m) where
     pub read2-no : (r : Refusal) (x : RakpMessage2) → t ≡ Refused r → x ≡ none2
         → ReadPromise2 (message2 m) (record { answer = Refused r; message = x })
     unfolding message2
     read2-no r x g z =
         let h : message2 m ≡ refuse (numberOf r) (valueOf r) = then-refuse _ _ _ _ (test-refused t _ r e g) in
-        record { answer = sym (ap verdict h); message = z ∙ sym (ap held2 h) }
+        record { answer = sym (ap done h); message = z ∙ sym (ap held2 h) }
 
-    pub read2-yes : (x : RakpMessage2) → t ≡ Passed → x ≡ fields2 m
-        → ReadPromise2 (message2 m) (record { answer = Passed; message = x })
+    pub read2-yes : (x : RakpMessage2) → t ≡ Done → x ≡ fields2 m
+        → ReadPromise2 (message2 m) (record { answer = Done; message = x })
     unfolding message2
     read2-yes x g z =
         let h : message2 m ≡ accept (fields2 m) = then-accept _ _ _ (test-passed t _ e g) in
-        record { answer = sym (ap verdict h); message = z ∙ sym (ap held2 h) }
+        record { answer = sym (ap done h); message = z ∙ sym (ap held2 h) }
 
-  module _ (e : tested t ≡ checked 1 names4 8 21 0 m) where
+  module _ (e : told t ≡ checked 1 names4 8 21 0 m) where
     pub read4-no : (r : Refusal) → t ≡ Refused r → refuse (numberOf r) (valueOf r) ≡ message4 m
     unfolding message4
     read4-no r g = sym (then-refuse _ _ _ _ (test-refused t _ r e g))
 
-    pub read4-yes : (x : RakpMessage4) → t ≡ Passed → x ≡ fields4 m → accept x ≡ message4 m
+    pub read4-yes : (x : RakpMessage4) → t ≡ Done → x ≡ fields4 m → accept x ≡ message4 m
     unfolding message4
     read4-yes x g z = ap accept z ∙ sym (then-accept _ _ _ (test-passed t _ e g))

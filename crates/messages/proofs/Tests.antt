@@ -86,7 +86,7 @@ module _ (at : ℕ) (names : List ℕ) (fixed n v : ℕ) (m : List ℕ) where
         (pass _ _ _ _ (eq-eqb _ 0 g)
         (pass _ _ _ _ (le-leb fixed _ k) (need-no _ _ _ _ (ap not (eq-eqb _ 0 z))))))
 
-    pub checked-passed : fixed ≤ length m → (unle (part m 4 4) ≡ 0 → ⊥) → accept 0 ≡ checked at names fixed n v m
+    pub checked-passed : fixed ≤ length m → (unle (part m 4 4) ≡ 0 → ⊥) → accept tt ≡ checked at names fixed n v m
     unfolding checked
     checked-passed k z =
         sym

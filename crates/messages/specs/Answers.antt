@@ -5,8 +5,6 @@ use Rattle.refusal.specs.Table.{numberOf, valueOf}
 use Rattle.messages.specs.Auth.{authenticationCode, integrityCode, confidentialityCode}
 use Rattle.messages.specs.Block.{Block, numbers}
 use Rattle.messages.specs.OpenSession.{Response, responseNumbers}
-use Rattle.messages.specs.declared.rakp.Test.{Test}
-use Rattle.messages.specs.declared.rakp.Test.the-variants as test
 use Rattle.messages.specs.declared.rakp.Written.{Written}
 use Rattle.messages.specs.declared.rakp.Written.the-variants as written
 use Rattle.messages.specs.declared.«open_session».BlockAnswer.{BlockAnswer}
@@ -22,10 +20,6 @@ use Rattle.messages.specs.declared.«open_session».OpenSessionAnswer.th
 use Rattle.messages.specs.declared.«rakp_4».RakpMessage4.{RakpMessage4}
 use Rattle.messages.specs.declared.«rakp_4».RakpAnswer4.{RakpAnswer4}
 use Rattle.messages.specs.declared.«rakp_4».RakpAnswer4.the-variants as four
-
-abbrev pub tested : Test → Res ℕ
-tested test.Passed = accept 0
-tested (test.Refused r) = refuse (numberOf r) (valueOf r)
 
 abbrev pub toldWritten : Written → Res ℕ
 toldWritten (written.Bytes n) = accept n

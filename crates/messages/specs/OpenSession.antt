@@ -38,7 +38,7 @@ pub record Response : Type 0 where
   pub confidentiality : ℕ
 
 -- under 2 bytes 1; the status at 1; not 36 bytes 1; the level at 2; the console's id at 4 zero 20; the system's at 8 zero 21
-unfoldable pub openChecked : List ℕ → Res ℕ
+unfoldable pub openChecked : List ℕ → Res Unit
 openChecked m =
     need (leb 2 (length m)) 1 0
     (need (eqb (getD m 1 0) 0) (statusNumber namesOpen (getD m 1 0)) (getD m 1 0)
@@ -46,7 +46,7 @@ openChecked m =
     (need (isLevel (getD m 2 0)) 19 (getD m 2 0)
     (need (not (eqb (unle (part m 4 4)) 0)) 20 0
     (need (not (eqb (unle (part m 8 4)) 0)) 21 0
-    (accept 0))))))
+    (accept tt))))))
 
 -- the response's numbers at their places, with the codes that the blocks say
 unfoldable pub openNumbers : List ℕ → ℕ → ℕ → ℕ → Response

@@ -4,11 +4,12 @@ use mathlib.Core.List.{List, []}
 use mathlib.Core.Path.{_≡_}
 use lib.Dec.{leb}
 use lib.ListN.{length}
-use Rattle.refusal.specs.Order.{Res, refuse, accept, need}
+use Rattle.refusal.specs.Order.{Res, refuse, accept, need, done}
 use Rattle.octets.specs.Place.{placed}
 use Rattle.messages.specs.Name.{stored}
 use Rattle.messages.specs.Rakp.{none2}
-use Rattle.messages.specs.Answers.{tested, toldWritten}
+use Rattle.refusal.specs.Outcome.{told}
+use Rattle.messages.specs.Answers.{toldWritten}
 use Rattle.messages.specs.declared.rakp.Written.{Written}
 use Rattle.messages.specs.declared.«rakp_1».UsernameAnswer.{UsernameAnswer}
 use Rattle.messages.specs.declared.«rakp_2».RakpMessage2.{RakpMessage2}
@@ -20,18 +21,13 @@ pub record WritePromise (bytes out : List ℕ) (r : Written) (exit : List ℕ) :
   pub answer : toldWritten r ≡ need (leb (length bytes) (length out)) 15 0 (accept (length bytes))
   pub buffer : exit ≡ placed out 0 bytes
 
--- whether something was found, without what was found
-abbrev pub verdict : {A : Type 0} → Res A → Res ℕ
-verdict (refuse n v) = refuse n v
-verdict (accept a) = accept 0
-
 -- an empty name where the answer is a refusal
 abbrev pub heldName : Res (List ℕ) → List ℕ
 heldName (refuse n v) = []
 heldName (accept l) = l
 
 pub record NamePromise (R : Res (List ℕ)) (r : UsernameAnswer) : Type 0 where
-  pub answer : tested (r .answer) ≡ verdict R
+  pub answer : told (r .answer) ≡ done R
   pub name : r .username ≡ stored (heldName R)
 
 -- zeros where the answer is a refusal
@@ -40,5 +36,5 @@ held2 (refuse n v) = none2
 held2 (accept m) = m
 
 pub record ReadPromise2 (R : Res RakpMessage2) (r : RakpAnswer2) : Type 0 where
-  pub answer : tested (r .answer) ≡ verdict R
+  pub answer : told (r .answer) ≡ done R
   pub message : r .message ≡ held2 R

@@ -15,13 +15,13 @@ use Rattle.messages.specs.declared.«rakp_3».RakpMessage3.{RakpMessage3
 use Rattle.messages.specs.declared.«rakp_4».RakpMessage4.{RakpMessage4}
 
 -- messages 2 and 4: under 4 bytes 1; the status; under the fixed part's bytes 1; the id at 4 zero
-unfoldable pub checked : ℕ → List ℕ → ℕ → ℕ → ℕ → List ℕ → Res ℕ
+unfoldable pub checked : ℕ → List ℕ → ℕ → ℕ → ℕ → List ℕ → Res Unit
 checked at names fixed number value m =
     need (leb 4 (length m)) 1 0
     (need (eqb (getD m at 0) 0) (statusNumber names (getD m at 0)) (getD m at 0)
     (need (leb fixed (length m)) 1 0
     (need (not (eqb (unle (part m 4 4)) 0)) number value
-    (accept 0))))
+    (accept tt))))
 
 -- message 2's status stands here, as the Rust reads it
 abbrev pub statusAt2 : ℕ

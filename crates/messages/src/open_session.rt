@@ -7,15 +7,16 @@ ghost use Rattle.octets.specs.Place.{begun};
 ghost use Rattle.messages.specs.Block.{blockOf, bytesOf, ofType, known};
 ghost use Rattle.messages.specs.Auth.{authenticationCode, integrityCode, confidentialityCode};
 ghost use Rattle.messages.specs.OpenSession.{levelByte, openRequest, openChecked, openNumbers, openFields, openResponse, responseNumbers};
-ghost use Rattle.messages.specs.Answers.{tested, toldBlock, toldAuthentication, toldIntegrity, toldConfidentiality, toldOpen};
+ghost use Rattle.refusal.specs.Outcome.{told};
+ghost use Rattle.messages.specs.Answers.{toldBlock, toldAuthentication, toldIntegrity, toldConfidentiality, toldOpen};
 ghost use Rattle.messages.specs.Promises.{WritePromise};
 use crate::auth;
 use crate::auth::AuthenticationAlgorithm;
 use crate::auth::ConfidentialityAlgorithm;
 use crate::auth::IntegrityAlgorithm;
 use crate::rakp;
-use crate::rakp::Test;
 use crate::rakp::Written;
+use refusal::Outcome;
 use refusal::Refusal;
 
 // The lengths of the request and of the response.
@@ -267,30 +268,30 @@ fn read_confidentiality(block: &[u8]) -> ConfidentialityAnswer
 }
 
 // The tests on what stands before the blocks.
-fn check_head(message: &[u8]) -> Test
-    ensures { λ r. ⌜ tested r ≡ openChecked (now (message .entry)) ⌝ }
+fn check_head(message: &[u8]) -> Outcome
+    ensures { λ r. ⌜ told r ≡ openChecked (now (message .entry)) ⌝ }
 {
     if message.len() < 2 {
-        return Test::Refused(Refusal::NotEnoughData);
+        return Outcome::Refused(Refusal::NotEnoughData);
     }
     let status = message[1];
     if status != 0 {
-        return Test::Refused(rakp::refuse_status(status, &NAMES));
+        return Outcome::Refused(rakp::refuse_status(status, &NAMES));
     }
     if message.len() != RESPONSE_LEN {
-        return Test::Refused(Refusal::NotEnoughData);
+        return Outcome::Refused(Refusal::NotEnoughData);
     }
     let level = message[2];
     if !auth::is_level(level) {
-        return Test::Refused(Refusal::InvalidPrivilegeLevel(level));
+        return Outcome::Refused(Refusal::InvalidPrivilegeLevel(level));
     }
     if octets::load_le4(message, 4) == 0 {
-        return Test::Refused(Refusal::ZeroRemoteConsoleSessionId);
+        return Outcome::Refused(Refusal::ZeroRemoteConsoleSessionId);
     }
     if octets::load_le4(message, 8) == 0 {
-        return Test::Refused(Refusal::ZeroManagedSystemSessionId);
+        return Outcome::Refused(Refusal::ZeroManagedSystemSessionId);
     }
-    Test::Passed
+    Outcome::Done
 }
 
 // The blocks in turn, and then the response.
@@ -341,8 +342,8 @@ impl OpenSessionResponse {
         ensures { λ r. ⌜ toldOpen r ≡ openResponse (now (message .entry)) ⌝ }
     {
         match check_head(message) {
-            Test::Refused(r) => OpenSessionAnswer::Refused(r),
-            Test::Passed => read_blocks(message),
+            Outcome::Refused(r) => OpenSessionAnswer::Refused(r),
+            Outcome::Done => read_blocks(message),
         }
     }
 }

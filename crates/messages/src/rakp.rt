@@ -6,14 +6,9 @@ ghost use Rattle.refusal.specs.Table.{numberOf, valueOf, among};
 ghost use Rattle.octets.specs.Number.{le};
 ghost use Rattle.messages.specs.Status.{statusNumber};
 ghost use Rattle.messages.specs.Rakp.{checked};
-ghost use Rattle.messages.specs.Answers.{tested};
+ghost use Rattle.refusal.specs.Outcome.{told};
+use refusal::Outcome;
 use refusal::Refusal;
-
-// The outcome of a row of tests.
-pub enum Test {
-    Passed,
-    Refused(Refusal),
-}
 
 // A writer's answer: how many bytes it wrote, or why none.
 pub enum Written {
@@ -67,24 +62,24 @@ pub(crate) fn check_head(
     names: &[u8],
     fixed: usize,
     zero: Refusal,
-) -> Test
+) -> Outcome
     requires { ⌜ at < 4 ⌝ }
-    ensures { λ r. ⌜ tested r ≡ checked at (now (names .entry)) fixed (numberOf zero) (valueOf zero) (now (message .entry)) ⌝ }
+    ensures { λ r. ⌜ told r ≡ checked at (now (names .entry)) fixed (numberOf zero) (valueOf zero) (now (message .entry)) ⌝ }
 {
     if message.len() < 4 {
-        return Test::Refused(Refusal::NotEnoughData);
+        return Outcome::Refused(Refusal::NotEnoughData);
     }
     let status = message[at];
     if status != 0 {
-        return Test::Refused(refuse_status(status, names));
+        return Outcome::Refused(refuse_status(status, names));
     }
     if message.len() < fixed {
-        return Test::Refused(Refusal::NotEnoughData);
+        return Outcome::Refused(Refusal::NotEnoughData);
     }
     if octets::load_le4(message, 4) == 0 {
-        return Test::Refused(zero);
+        return Outcome::Refused(zero);
     }
-    Test::Passed
+    Outcome::Done
 }
 
 // Four bytes and an id, as every message that we write begins.

@@ -8,8 +8,8 @@ ghost use Rattle.messages.specs.Name.{allowed, nameOf, usernameOf};
 ghost use Rattle.messages.specs.Rakp.{message1};
 ghost use Rattle.messages.specs.Promises.{NamePromise, WritePromise};
 use crate::rakp;
-use crate::rakp::Test;
 use crate::rakp::Written;
+use refusal::Outcome;
 use refusal::Refusal;
 
 // Where the role stands, and where the name: behind the head, the random number and the role's four bytes.
@@ -24,7 +24,7 @@ pub struct Username {
 }
 
 pub struct UsernameAnswer {
-    pub answer: Test,
+    pub answer: Outcome,
     pub username: Username,
 }
 
@@ -75,13 +75,13 @@ fn take_name(name: &[u8], n: usize) -> UsernameAnswer
     let mut bytes = [0u8; 16];
     if !is_allowed(&name[..n]) {
         return UsernameAnswer {
-            answer: Test::Refused(Refusal::InvalidUsername),
+            answer: Outcome::Refused(Refusal::InvalidUsername),
             username: Username { bytes, len: 0 },
         };
     }
     octets::put(&mut bytes, 0, &name[..n]);
     UsernameAnswer {
-        answer: Test::Passed,
+        answer: Outcome::Done,
         username: Username { bytes, len: n },
     }
 }

@@ -6,7 +6,7 @@ ghost use Rattle.messages.specs.Rakp.{fields2, none2, message2};
 ghost use Rattle.messages.specs.Promises.{ReadPromise2};
 use crate::rakp;
 use crate::rakp::Place;
-use crate::rakp::Test;
+use refusal::Outcome;
 use refusal::Refusal;
 
 // Where the status stands, where the code begins, and the statuses that have a name here besides the common ones.
@@ -26,7 +26,7 @@ pub struct RakpMessage2 {
 
 // The message, all zeros where the answer is a refusal.
 pub struct RakpAnswer2 {
-    pub answer: Test,
+    pub answer: Outcome,
     pub message: RakpMessage2,
 }
 
@@ -73,12 +73,12 @@ impl RakpMessage2 {
             CODE_AT,
             Refusal::ZeroRemoteConsoleSessionId,
         ) {
-            Test::Refused(r) => RakpAnswer2 {
-                answer: Test::Refused(r),
+            Outcome::Refused(r) => RakpAnswer2 {
+                answer: Outcome::Refused(r),
                 message: make_blank(),
             },
-            Test::Passed => RakpAnswer2 {
-                answer: Test::Passed,
+            Outcome::Done => RakpAnswer2 {
+                answer: Outcome::Done,
                 message: read_fields(message),
             },
         }

@@ -4,7 +4,7 @@ ghost use Rattle.messages.specs.Rakp.{message4};
 ghost use Rattle.messages.specs.Answers.{told4};
 use crate::rakp;
 use crate::rakp::Place;
-use crate::rakp::Test;
+use refusal::Outcome;
 use refusal::Refusal;
 
 // Where the status stands, where the check value begins, and the statuses that have a name here besides the common ones.
@@ -36,8 +36,8 @@ impl RakpMessage4 {
             VALUE_AT,
             Refusal::ZeroManagedSystemSessionId,
         ) {
-            Test::Refused(r) => RakpAnswer4::Refused(r),
-            Test::Passed => RakpAnswer4::Message(RakpMessage4 {
+            Outcome::Refused(r) => RakpAnswer4::Refused(r),
+            Outcome::Done => RakpAnswer4::Message(RakpMessage4 {
                 tag: message[0],
                 id: octets::load_le4(message, 4),
                 value: Place {

@@ -7,11 +7,11 @@ use messages::open_session::AlgorithmPayload;
 use messages::open_session::BlockAnswer;
 use messages::open_session::OpenSessionAnswer;
 use messages::open_session::OpenSessionResponse;
-use messages::rakp::Test;
 use messages::rakp_1::Username;
 use messages::rakp_2::RakpMessage2;
 use messages::rakp_4::RakpAnswer4;
 use messages::rakp_4::RakpMessage4;
+use refusal::Outcome;
 use refusal::Refusal;
 
 // What is read; of a whole message a byte is varied.
@@ -53,8 +53,8 @@ fn try_message_2(message: &[u8]) -> Told {
     let answer = read.answer;
     let m = read.message;
     match answer {
-        Test::Refused(r) => tell_refusal(r),
-        Test::Passed => Told {
+        Outcome::Refused(r) => tell_refusal(r),
+        Outcome::Done => Told {
             number: 0,
             value: m.tag as u64,
         },
@@ -94,8 +94,8 @@ fn try_name(n: &[u8]) -> Told {
     let answer = made.answer;
     let username = made.username;
     match answer {
-        Test::Refused(r) => tell_refusal(r),
-        Test::Passed => Told {
+        Outcome::Refused(r) => tell_refusal(r),
+        Outcome::Done => Told {
             number: 0,
             value: username.len as u64,
         },

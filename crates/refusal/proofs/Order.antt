@@ -1,8 +1,8 @@
 -- Laws of the order of refusals. A proof over a chain of tests cites these and never opens `need` or `andThen`.
 use Prim.Native.Nat.{ℕ}
 use mathlib.Core.Bool.{Bool, true, false, false≢true, true≢false}
-use mathlib.Core.Path.{_≡_, refl, ap}
-use Rattle.refusal.specs.Order.{Res, refuse, accept, need, andThen}
+use mathlib.Core.Path.{_≡_, refl, sym, ap, ap₂}
+use Rattle.refusal.specs.Order.{Res, refuse, accept, need, andThen, done}
 
 module _ {A : Type 0} where
   -- a refusal is no acceptance
@@ -51,3 +51,19 @@ module _ {A B : Type 0} where
   unfolding andThen
   then-inv (refuse n v) f b e = absurd (refuse≢accept n v b e)
   then-inv (accept a) f b e = (a, refl, e)
+
+-- a refusal is the same of what type ever
+pub refuse-as : {A B : Type 0} (m u n v : ℕ) → _≡_ {A = Res B} (refuse m u) (refuse n v) → _≡_ {A = Res A} (refuse m u) (refuse n v)
+refuse-as m u n v e =
+    let f : m ≡ n = cc in
+    let g : u ≡ v = cc in
+    ap₂ refuse f g
+
+-- what stands behind an outcome
+pub done-yes : {A : Type 0} (R : Res A) → done R ≡ accept tt → (a : A) × (R ≡ accept a)
+done-yes (refuse n v) e = absurd (refuse≢accept n v tt e)
+done-yes (accept a) e = (a, refl)
+
+pub done-no : {A : Type 0} (R : Res A) (n v : ℕ) → done R ≡ refuse n v → R ≡ refuse n v
+done-no (refuse m u) n v e = refuse-as m u n v e
+done-no (accept a) n v e = absurd (refuse≢accept n v tt (sym e))

@@ -38,7 +38,7 @@ pub open-accepts : (s : Record) (m rm : List ℕ) (room : ℕ) (r : Response) �
     → openOf s m rm room ≡ accept (madeOpen s rm r)
 unfolding openOf readyOpen heardOpen
 open-accepts s m rm room r a b e t i c =
-    then-accept _ _ 0 (pass _ _ _ _ a (pass _ _ _ _ (le-leb _ _ b) refl))
+    then-accept _ _ tt (pass _ _ _ _ a (pass _ _ _ _ (le-leb _ _ b) refl))
     ∙ then-accept _ _ r
     (then-accept _ _ r e ∙ pass _ _ _ _ (eq-eqb _ openTag t) (pass _ _ _ _ (eq-eqb _ _ i) (pass _ _ _ _ c refl)))
 
@@ -56,7 +56,7 @@ pub two-accepts : (most : ℕ) (s : Record) (kg password m : List ℕ) (room : �
     → twoOf most s kg password m room ≡ accept (madeTwo s kg password f)
 unfolding twoOf readyTwo heardTwo provedTwo
 two-accepts most s kg password m room f a k p b e t i n c =
-    then-accept _ _ 0
+    then-accept _ _ tt
     (pass _ _ _ _ a
     (pass _ _ _ _ (legal-kg (length kg) k) (pass _ _ _ _ (le-leb _ most p) (pass _ _ _ _ (le-leb threeSize _ b) refl))))
     ∙ then-accept _ _ f
@@ -71,7 +71,7 @@ four-decides : (s : Record) (m : List ℕ) (f : RakpMessage4) → inStep s 3 ≡
     ≡ andThen (need (same (drop (f .value .at) m) (valueFour s)) 32 0 (accept f)) (λ _. accept (record { next = opened s; bytes = [] }))
 unfolding fourOf readyFour heardFour
 four-decides s m f a e t i =
-    then-accept _ _ 0 (pass _ _ _ _ a refl)
+    then-accept _ _ tt (pass _ _ _ _ a refl)
     ∙ ap (λ (x : Res RakpMessage4). andThen x (λ _. accept (record { next = opened s; bytes = [] })))
     (then-accept _ _ f e ∙ pass _ _ _ _ (eq-eqb _ tag3 t) (pass _ _ _ _ (eq-eqb _ _ i) refl))
 

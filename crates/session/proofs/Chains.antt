@@ -51,11 +51,11 @@ module _ (asked : Asked) where
   begin20 e = sym (need-no _ _ _ _ (ap not (eq-eqb _ 0 e)))
 
   module _ (d : asked .console ≡ 0 → ⊥) where
-    pub begin-none : asked .level ≡ None → accept 0 ≡ readyBegin asked
+    pub begin-none : asked .level ≡ None → accept tt ≡ readyBegin asked
     unfolding readyBegin
     begin-none e = sym (pass _ _ _ _ (ap not (ne-eqb _ 0 d)) (pass _ _ _ _ (ap levelAllowed e) refl))
 
-    pub begin-level : (b : ℕ) → asked .level ≡ Level b → true ≡ isLevel b → accept 0 ≡ readyBegin asked
+    pub begin-level : (b : ℕ) → asked .level ≡ Level b → true ≡ isLevel b → accept tt ≡ readyBegin asked
     unfolding readyBegin
     begin-level b e f = sym (pass _ _ _ _ (ap not (ne-eqb _ 0 d)) (pass _ _ _ _ (ap levelAllowed e ∙ sym f) refl))
 
@@ -76,11 +76,11 @@ module _ (s : Record) (room : ℕ) where
   unfolding readyOpen
   open15 e h = sym (pass _ _ _ _ e (need-no _ _ _ _ (lt-leb _ _ h)))
 
-  pub open-ready : inStep s 1 ≡ true → oneSize (s .begun .username .len) ≤ room → accept 0 ≡ readyOpen s room
+  pub open-ready : inStep s 1 ≡ true → oneSize (s .begun .username .len) ≤ room → accept tt ≡ readyOpen s room
   unfolding readyOpen
   open-ready e h = sym (pass _ _ _ _ e (pass _ _ _ _ (le-leb _ _ h) refl))
 
-  pub open-known : {k : ℕ} → readyOpen s room ≡ accept k → (s .begun .username .len ≤ 16) × (oneSize (s .begun .username .len) ≤ room)
+  pub open-known : readyOpen s room ≡ accept tt → (s .begun .username .len ≤ 16) × (oneSize (s .begun .username .len) ≤ room)
   unfolding readyOpen
   open-known e =
       let t = need-inv _ _ _ _ e in
@@ -151,7 +151,7 @@ module _ (most : ℕ) (s : Record) (kg password : List ℕ) (room : ℕ) where
       unfolding readyTwo
       two15 g h = sym (pass _ _ _ _ e (pass _ _ _ _ f (pass _ _ _ _ (le-leb _ _ g) (need-no _ _ _ _ (lt-leb _ _ h)))))
 
-      pub two-ready : length password ≤ most → threeSize ≤ room → accept 0 ≡ readyTwo most s kg password room
+      pub two-ready : length password ≤ most → threeSize ≤ room → accept tt ≡ readyTwo most s kg password room
       unfolding readyTwo
       two-ready g h = sym (pass _ _ _ _ e (pass _ _ _ _ f (pass _ _ _ _ (le-leb _ _ g) (pass _ _ _ _ (le-leb _ _ h) refl))))
 
@@ -163,7 +163,7 @@ module _ (most : ℕ) (s : Record) (kg password : List ℕ) (room : ℕ) where
       by false true p q h = omega (arith, eqb-true (length kg) kgSize q)
       by false false p q h = absurd (false≢true h)
 
-  pub two-known : {k : ℕ} → readyTwo most s kg password room ≡ accept k → (length kg ≤ kgSize) × (length password ≤ most) × (threeSize ≤ room)
+  pub two-known : readyTwo most s kg password room ≡ accept tt → (length kg ≤ kgSize) × (length password ≤ most) × (threeSize ≤ room)
   unfolding readyTwo
   two-known e =
       let t = need-inv _ _ _ _ e in
@@ -215,7 +215,7 @@ pub four33 : (s : Record) → inStep s 3 ≡ false → readyFour s ≡ refuse 33
 unfolding readyFour
 four33 s e = need-no _ _ _ _ e
 
-pub four-ready : (s : Record) → inStep s 3 ≡ true → readyFour s ≡ accept 0
+pub four-ready : (s : Record) → inStep s 3 ≡ true → readyFour s ≡ accept tt
 unfolding readyFour
 four-ready s e = pass _ _ _ _ e refl
 

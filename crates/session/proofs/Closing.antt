@@ -35,8 +35,8 @@ module _ (s : Record) (m : List ℕ) (d : drop 8 m ≡ valueFour s → ⊥) wher
   pub other-closes : inStep s 3 ≡ true → recordAfter s (fourOf s m) ≡ closed
   unfolding fourOf readyFour
   other-closes h =
-      let e : readyFour s ≡ accept 0 = pass _ _ _ _ h refl in
-      let f : fourOf s m ≡ andThen (heardFour s m) (λ _. accept (record { next = opened s; bytes = [] })) = then-accept _ _ 0 e in
+      let e : readyFour s ≡ accept tt = pass _ _ _ _ h refl in
+      let f : fourOf s m ≡ andThen (heardFour s m) (λ _. accept (record { next = opened s; bytes = [] })) = then-accept _ _ tt e in
       ap (recordAfter s) f
       ∙ shut-record s _ (only-then Shuts _ _ (heard-four-shuts s m) (λ _. only-accept Shuts _)) (λ M g. d (four-tells s m M (f ∙ g) .1))
 

@@ -59,7 +59,7 @@ module _ (tag level own id i c : ℕ) (a : own < 2 ^ 32) (b : own ≡ 0 → ⊥)
       let x = id-back own a in
       let y = id-back id p in
       let n : Response = responseSays tag level (unle (le 4 own)) (unle (le 4 id)) i c in
-      then-accept _ _ 0 (sym (open-passed m (omega arith) refl refl (isLevel level) refl l (λ z. b (sym x ∙ z)) (λ z. q (sym y ∙ z))))
+      then-accept _ _ tt (sym (open-passed m (omega arith) refl refl (isLevel level) refl l (λ z. b (sym x ∙ z)) (λ z. q (sym y ∙ z))))
       ∙ sym
       (fields-all m 1 (of-type 0 1 refl refl) i (of-type 1 i refl (le-leb i 4 (omega arith))) c n
       (of-type 2 c refl (le-leb c 3 (omega arith))) refl)
@@ -104,7 +104,7 @@ module _ (tag own : ℕ) (rc guid code : List ℕ) (a : own < 2 ^ 32) (b : own �
   two-heard =
       let n = two-length in
       let x = id-back own a in
-      then-accept _ _ 0 (sym (checked-passed 2 _ 40 20 0 two (omega arith) refl (omega arith) (λ z. b (sym x ∙ z)))) ∙ ap accept two-fields
+      then-accept _ _ tt (sym (checked-passed 2 _ 40 20 0 two (omega arith) refl (omega arith) (λ z. b (sym x ∙ z)))) ∙ ap accept two-fields
 
 -- message 4
 abbrev pub fourBytes : ℕ → ℕ → List ℕ → List ℕ
@@ -119,7 +119,7 @@ unfolding message4 fields4
 four-heard tag own value a b =
     let x = id-back own a in
     let m : List ℕ = fourBytes tag own value in
-    then-accept _ _ 0 (sym (checked-passed 1 _ 8 21 0 m (omega arith) refl (omega arith) (λ z. b (sym x ∙ z))))
+    then-accept _ _ tt (sym (checked-passed 1 _ 8 21 0 m (omega arith) refl (omega arith) (λ z. b (sym x ∙ z))))
     ∙ rw x
 
 -- what the system reads: the request

@@ -8,9 +8,9 @@ use lib.Dec.{leb}
 use lib.ListN.{length, take, drop, length-append}
 use lib.Seq.{length-take-le}
 use borrow.Author.Tests.{le-leb}
-use Rattle.refusal.specs.Order.{Res, refuse, accept}
+use Rattle.refusal.specs.Order.{Res, refuse, accept, done}
 use Rattle.refusal.specs.declared.Refusal.the-variants.{Declined, WrongStep}
-use Rattle.refusal.proofs.Order.{refuse≢accept, pass, need-no}
+use Rattle.refusal.proofs.Order.{refuse≢accept, pass, need-no, done-yes}
 use Rattle.octets.specs.Equal.{same}
 use Rattle.octets.specs.Place.{begun}
 use Rattle.octets.proofs.Place.{to-end}
@@ -23,13 +23,13 @@ use Rattle.sha1.proofs.Laws.{mac-length}
 use Rattle.keys.specs.Chosen.{absent, keyOf}
 use Rattle.keys.specs.declared.keys.Keys.{Keys}
 use Rattle.suite.specs.declared.SubState.{SubState}
-use Rattle.messages.specs.Answers.{tested}
+use Rattle.refusal.specs.Outcome.{told}
 use Rattle.messages.specs.Name.{nameOf}
 use Rattle.messages.specs.OpenSession.{openRequest, responseNumbers}
-use Rattle.messages.specs.Promises.{WritePromise, verdict}
+use Rattle.messages.specs.Promises.{WritePromise}
 use Rattle.messages.specs.Rakp.{message1, message3, declined3, message4, fields2, fields4}
-use Rattle.messages.specs.declared.rakp.Test.{Test}
-use Rattle.messages.specs.declared.rakp.Test.the-variants as test
+use Rattle.refusal.specs.declared.Outcome.{Outcome}
+use Rattle.refusal.specs.declared.Outcome.the-variants as outcome
 use Rattle.messages.specs.declared.rakp.Written.{Written}
 use Rattle.messages.specs.declared.«open_session».OpenSessionResponse.{OpenSessionResponse}
 use Rattle.messages.specs.declared.«rakp_1».Username.{Username}
@@ -49,7 +49,7 @@ use Rattle.session.specs.declared.Begun.{Begun}
 use Rattle.session.specs.declared.Agreed.{Agreed}
 use Rattle.session.specs.declared.Record.{Record}
 use Rattle.refusal.specs.declared.Outcome.the-variants.{Done, Refused}
-use Rattle.session.proofs.Stages.{step-made, verdict-yes}
+use Rattle.session.proofs.Stages.{step-made}
 use Rattle.session.proofs.Chains.{two-found}
 
 -- a code under a key that is short enough
@@ -111,19 +111,19 @@ unfolding declined3
 declined s y out w x e p h = record { answer = refl; next = e; len = refl; buffer = wrote _ out w x p (omega arith) .1 }
 
 -- message 2 as it was heard
-pub heard-stop : (R : Res RakpMessage2) (n v : ℕ) (t : Test) (f : RakpMessage2) → R ≡ refuse n v → tested t ≡ refuse n v
+pub heard-stop : (R : Res RakpMessage2) (n v : ℕ) (t : Outcome) (f : RakpMessage2) → R ≡ refuse n v → told t ≡ refuse n v
     → HeardTwo R (record { answer = t; message = f })
-heard-stop R n v t f e g = record { answer = g ∙ sym (ap verdict e); message = λ h k. absurd (refuse≢accept n v h (sym e ∙ k)) }
+heard-stop R n v t f e g = record { answer = g ∙ sym (ap done e); message = λ h k. absurd (refuse≢accept n v h (sym e ∙ k)) }
 
-pub heard-pass : (R : Res RakpMessage2) (f : RakpMessage2) → R ≡ accept f → HeardTwo R (record { answer = test.Passed; message = f })
-heard-pass R f e = record { answer = sym (ap verdict e); message = λ h k. accept-one (sym e ∙ k) }
+pub heard-pass : (R : Res RakpMessage2) (f : RakpMessage2) → R ≡ accept f → HeardTwo R (record { answer = outcome.Done; message = f })
+heard-pass R f e = record { answer = sym (ap done e); message = λ h k. accept-one (sym e ∙ k) }
   where
     accept-one : {h : RakpMessage2} → accept f ≡ accept h → f ≡ h
     accept-one q = cc
 
-pub heard-now : (R : Res RakpMessage2) (r : RakpAnswer2) → HeardTwo R r → r .answer ≡ test.Passed → R ≡ accept (r .message)
+pub heard-now : (R : Res RakpMessage2) (r : RakpAnswer2) → HeardTwo R r → r .answer ≡ outcome.Done → R ≡ accept (r .message)
 heard-now R r p e =
-    let u = verdict-yes R (sym (p .answer) ∙ ap tested e) in
+    let u = done-yes R (sym (p .answer) ∙ ap told e) in
     u .1 ∙ ap accept (sym (p .message (u .0) (u .1)))
 
 -- the code's place lies in the message

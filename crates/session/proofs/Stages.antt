@@ -2,17 +2,16 @@
 use Prim.Native.Nat.{ℕ}
 use mathlib.Core.Bool.{Bool, true, false, not, cond}
 use mathlib.Core.List.{List}
-use mathlib.Core.Path.{_≡_, refl, sym, _∙_, ap₂}
+use mathlib.Core.Path.{_≡_, refl, sym, _∙_}
 use lib.Dec.{eqb}
 use lib.ListN.{length}
 use borrow.Author.Tests.{not-true, not-false}
 use Rattle.refusal.specs.Order.{Res, refuse, accept, need, andThen}
 use Rattle.refusal.specs.Table.{numberOf, valueOf, among}
 use Rattle.refusal.specs.declared.Refusal.{Refusal}
-use Rattle.refusal.proofs.Order.{then-refuse, then-accept, refuse≢accept}
+use Rattle.refusal.proofs.Order.{then-refuse, then-accept, refuse≢accept, refuse-as}
 use Rattle.octets.specs.Place.{begun}
 use Rattle.octets.proofs.Place.{begun-none}
-use Rattle.messages.specs.Promises.{verdict}
 use Rattle.session.specs.Record.{closed}
 use Rattle.session.specs.Steps.{Made}
 use Rattle.session.specs.Parts.{refusedAt}
@@ -44,16 +43,9 @@ unfolding need
 only-need P true n v r p h k w e = h k w e
 only-need P false n v r p h k w e = let f : n ≡ k = cc in rw f at p
 
--- a refusal is the same of what type ever
-refused-as : {A B : Type 0} (m u n v : ℕ) → _≡_ {A = Res B} (refuse m u) (refuse n v) → _≡_ {A = Res A} (refuse m u) (refuse n v)
-refused-as m u n v e =
-    let f : m ≡ n = cc in
-    let g : u ≡ v = cc in
-    ap₂ refuse f g
-
 pub only-then : {A B : Type 0} (P : ℕ → Type 0) (r : Res A) (f : A → Res B) → Only P r → ((a : A) → Only P (f a)) → Only P (andThen r f)
 unfolding andThen
-only-then P (refuse m u) f h g n v e = h n v (refused-as m u n v e)
+only-then P (refuse m u) f h g n v e = h n v (refuse-as m u n v e)
 only-then P (accept a) f h g n v e = g a n v e
 
 -- a step refused before the message is looked at: the record stays
@@ -91,15 +83,6 @@ promise-as R Q s out r x e p = rw e p
 pub step-made : (M : Made) (s : Record) (out : List ℕ) (st : Record) (n : ℕ) (x : List ℕ) → st ≡ M .next → n ≡ length (M .bytes)
     → x ≡ begun (M .bytes) out → StepPromise (accept M) s out (record { state = st; answer = Done; len = n }) x
 step-made M s out st n x e f g = record { answer = refl; next = e; len = f; buffer = g }
-
--- what a verdict says
-pub verdict-yes : {A : Type 0} (R : Res A) → verdict R ≡ accept 0 → (a : A) × (R ≡ accept a)
-verdict-yes (refuse n v) e = absurd (refuse≢accept n v 0 e)
-verdict-yes (accept a) e = (a, refl)
-
-pub verdict-no : {A : Type 0} (R : Res A) (n v : ℕ) → verdict R ≡ refuse n v → R ≡ refuse n v
-verdict-no (refuse m u) n v e = refused-as m u n v e
-verdict-no (accept a) n v e = absurd (refuse≢accept n v 0 (sym e))
 
 -- what a negated test says of the definition that its function keeps
 pub test-no : {r t : Bool} → r ≡ t → not r ≡ true → t ≡ false

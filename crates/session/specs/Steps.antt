@@ -53,11 +53,11 @@ requestOf asked =
       confidentiality = C.the-variants.AesCbc128;
     })
 
-unfoldable pub readyBegin : Asked → Res ℕ
+unfoldable pub readyBegin : Asked → Res Unit
 readyBegin asked =
     need (not (eqb (asked .console) 0)) 20 0
     (need (levelAllowed (asked .level)) 19 (levelByte (asked .level))
-    (accept 0))
+    (accept tt))
 
 unfoldable pub madeBegin : Asked → Username → Made
 madeBegin asked username = record { next = begunWith (begunOf asked username); bytes = requestOf asked }
@@ -70,8 +70,8 @@ beginOf asked name room =
     (accept (madeBegin asked (stored n)))))
 
 -- the open response
-unfoldable pub readyOpen : Record → ℕ → Res ℕ
-readyOpen s room = need (inStep s 1) 33 0 (need (leb (oneSize (s .begun .username .len)) room) 15 0 (accept 0))
+unfoldable pub readyOpen : Record → ℕ → Res Unit
+readyOpen s room = need (inStep s 1) 33 0 (need (leb (oneSize (s .begun .username .len)) room) 15 0 (accept tt))
 
 -- the algorithms that this layer carries
 unfoldable pub carried : Response → Bool
@@ -96,13 +96,13 @@ unfoldable pub openOf : Record → List ℕ → List ℕ → ℕ → Res Made
 openOf s m rm room = andThen (readyOpen s room) (λ _. andThen (heardOpen s m) (λ r. accept (madeOpen s rm r)))
 
 -- message 2, for passwords of up to `most` bytes
-unfoldable pub readyTwo : ℕ → Record → List ℕ → List ℕ → ℕ → Res ℕ
+unfoldable pub readyTwo : ℕ → Record → List ℕ → List ℕ → ℕ → Res Unit
 readyTwo most s kg password room =
     need (inStep s 2) 33 0
     (need (legalKg (length kg)) 35 0
     (need (leb (length password) most) 36 0
     (need (leb threeSize room) 15 0
-    (accept 0))))
+    (accept tt))))
 
 unfoldable pub heardTwo : Record → List ℕ → Res RakpMessage2
 heardTwo s m =
@@ -142,8 +142,8 @@ twoOf most s kg password m room =
     andThen (readyTwo most s kg password room) (λ _. andThen (heardTwo s m) (λ f. provedTwo s kg password m f))
 
 -- message 4
-unfoldable pub readyFour : Record → Res ℕ
-readyFour s = need (inStep s 3) 33 0 (accept 0)
+unfoldable pub readyFour : Record → Res Unit
+readyFour s = need (inStep s 3) 33 0 (accept tt)
 
 unfoldable pub valueFour : Record → List ℕ
 valueFour s = value4 hmacSha1 valueSize (s .keys .sik) (s .rm) (s .system) (s .guid)

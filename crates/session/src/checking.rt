@@ -1,8 +1,8 @@
 // Message 4, which opens the session.
 ghost use mathlib.Core.Path.{_≡_};
 ghost use mathlib.Core.List.{[]};
-ghost use Rattle.messages.specs.Answers.{tested};
-ghost use Rattle.messages.specs.Promises.{verdict};
+ghost use Rattle.refusal.specs.Outcome.{told};
+ghost use Rattle.refusal.specs.Order.{done};
 ghost use Rattle.session.specs.Record.{opened};
 ghost use Rattle.session.specs.Steps.{heardFour, valueFour, fourOf};
 ghost use Rattle.session.specs.Promise.{StepPromise};
@@ -11,7 +11,6 @@ use crate::Step;
 use crate::Stepped;
 use crate::TAG_3;
 use crate::state;
-use messages::rakp::Test;
 use messages::rakp_4::RakpAnswer4;
 use messages::rakp_4::RakpMessage4;
 use refusal::Outcome;
@@ -52,26 +51,26 @@ fn mark_open(state: Record) -> Record
 }
 
 // Message 4 by its own tests, then by tag and id, then by the value, over all of its bytes.
-fn check_message(state: Record, message: &[u8]) -> Test
-    ensures { λ r. ⌜ tested r ≡ verdict (heardFour state (now (message .entry))) ⌝ }
+fn check_message(state: Record, message: &[u8]) -> Outcome
+    ensures { λ r. ⌜ told r ≡ done (heardFour state (now (message .entry))) ⌝ }
 {
     match RakpMessage4::from_data(message) {
-        RakpAnswer4::Refused(r) => Test::Refused(r),
+        RakpAnswer4::Refused(r) => Outcome::Refused(r),
         RakpAnswer4::Message(f) => {
             if f.tag != TAG_3 {
-                return Test::Refused(Refusal::MessageTagMismatch);
+                return Outcome::Refused(Refusal::MessageTagMismatch);
             }
             let begun = state.begun;
             if f.id != begun.console {
-                return Test::Refused(Refusal::SessionIdMismatch);
+                return Outcome::Refused(Refusal::SessionIdMismatch);
             }
             let v = compute_value(state);
             let p = f.value;
             let at = p.at;
             if !octets::same(&message[at..], &v) {
-                return Test::Refused(Refusal::InvalidIntegrityCheckValue);
+                return Outcome::Refused(Refusal::InvalidIntegrityCheckValue);
             }
-            Test::Passed
+            Outcome::Done
         }
     }
 }
@@ -84,8 +83,8 @@ pub fn message_4(state: Record, message: &[u8]) -> Stepped
         return state::refuse(state, Refusal::WrongStep);
     }
     match check_message(state, message) {
-        Test::Refused(r) => state::refuse(state::make_closed(), r),
-        Test::Passed => Stepped {
+        Outcome::Refused(r) => state::refuse(state::make_closed(), r),
+        Outcome::Done => Stepped {
             state: mark_open(state),
             answer: Outcome::Done,
             len: 0,

@@ -3,7 +3,7 @@ ghost use mathlib.Core.Path.{_≡_};
 ghost use Prim.Native.Nat.{_≤_};
 ghost use lib.ListN.{length, drop};
 ghost use Rattle.refusal.specs.Order.{accept, refuse};
-ghost use Rattle.messages.specs.Answers.{tested};
+ghost use Rattle.refusal.specs.Outcome.{told};
 ghost use Rattle.octets.specs.Equal.{same};
 ghost use Rattle.running.specs.Promise.{limit};
 ghost use Rattle.session.specs.Constants.{legalKg, longestPassword, threeSize};
@@ -19,7 +19,6 @@ use crate::TAG_1;
 use crate::TAG_3;
 use crate::state;
 use keys::Keys;
-use messages::rakp::Test;
 use messages::rakp_2::RakpAnswer2;
 use messages::rakp_2::RakpMessage2;
 use messages::rakp_3::RakpMessage3;
@@ -51,22 +50,22 @@ fn is_legal_kg(n: usize) -> bool
 }
 
 // What is tested before the message is looked at.
-fn check_call(state: Record, kg: &[u8], password: &[u8], room: usize) -> Test
-    ensures { λ r. ⌜ tested r ≡ readyTwo longestPassword state (now (kg .entry)) (now (password .entry)) room ⌝ }
+fn check_call(state: Record, kg: &[u8], password: &[u8], room: usize) -> Outcome
+    ensures { λ r. ⌜ told r ≡ readyTwo longestPassword state (now (kg .entry)) (now (password .entry)) room ⌝ }
 {
     if !state::is_in_step(state, 2) {
-        return Test::Refused(Refusal::WrongStep);
+        return Outcome::Refused(Refusal::WrongStep);
     }
     if !is_legal_kg(kg.len()) {
-        return Test::Refused(Refusal::InvalidKgLen);
+        return Outcome::Refused(Refusal::InvalidKgLen);
     }
     if LONGEST_PASSWORD < password.len() {
-        return Test::Refused(Refusal::PasswordTooLong);
+        return Outcome::Refused(Refusal::PasswordTooLong);
     }
     if room < MESSAGE_3_LEN {
-        return Test::Refused(Refusal::OutputTooShort);
+        return Outcome::Refused(Refusal::OutputTooShort);
     }
-    Test::Passed
+    Outcome::Done
 }
 
 // Message 2 by its own tests, then by tag, id and the code's length.
@@ -77,33 +76,33 @@ fn read_message(state: Record, message: &[u8]) -> RakpAnswer2
     let answer = got.answer;
     let f = got.message;
     match answer {
-        Test::Refused(r) => RakpAnswer2 {
-            answer: Test::Refused(r),
+        Outcome::Refused(r) => RakpAnswer2 {
+            answer: Outcome::Refused(r),
             message: f,
         },
-        Test::Passed => {
+        Outcome::Done => {
             if f.tag != TAG_1 {
                 return RakpAnswer2 {
-                    answer: Test::Refused(Refusal::MessageTagMismatch),
+                    answer: Outcome::Refused(Refusal::MessageTagMismatch),
                     message: f,
                 };
             }
             let begun = state.begun;
             if f.console != begun.console {
                 return RakpAnswer2 {
-                    answer: Test::Refused(Refusal::SessionIdMismatch),
+                    answer: Outcome::Refused(Refusal::SessionIdMismatch),
                     message: f,
                 };
             }
             let code = f.code;
             if code.len != CODE_LEN {
                 return RakpAnswer2 {
-                    answer: Test::Refused(Refusal::InvalidKeyExchangeAuthCodeLen),
+                    answer: Outcome::Refused(Refusal::InvalidKeyExchangeAuthCodeLen),
                     message: f,
                 };
             }
             RakpAnswer2 {
-                answer: Test::Passed,
+                answer: Outcome::Done,
                 message: f,
             }
         }
@@ -260,14 +259,14 @@ pub fn message_2<'a>(
         state (now (out .entry)) r (now (out .exit)) ⌝ }
 {
     match check_call(state, kg, password, out.len()) {
-        Test::Refused(r) => state::refuse(state, r),
-        Test::Passed => {
+        Outcome::Refused(r) => state::refuse(state, r),
+        Outcome::Done => {
             let got = read_message(state, message);
             let answer = got.answer;
             let f = got.message;
             match answer {
-                Test::Refused(r) => state::refuse(state::make_closed(), r),
-                Test::Passed => answer_message(state, kg, password, message, f, out),
+                Outcome::Refused(r) => state::refuse(state::make_closed(), r),
+                Outcome::Done => answer_message(state, kg, password, message, f, out),
             }
         }
     }

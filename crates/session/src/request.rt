@@ -3,7 +3,7 @@ ghost use mathlib.Core.Path.{_≡_};
 ghost use Prim.Native.Nat.{_≤_};
 ghost use lib.ListN.{length};
 ghost use Rattle.refusal.specs.Order.{accept};
-ghost use Rattle.messages.specs.Answers.{tested};
+ghost use Rattle.refusal.specs.Outcome.{told};
 ghost use Rattle.session.specs.Constants.{requestSize};
 ghost use Rattle.session.specs.Record.{closed, begunOf, begunWith};
 ghost use Rattle.session.specs.Steps.{readyBegin, madeBegin, beginOf};
@@ -20,7 +20,6 @@ use messages::auth::ConfidentialityAlgorithm;
 use messages::auth::IntegrityAlgorithm;
 use messages::open_session::OpenSessionRequest;
 use messages::open_session::RequestedPrivilege;
-use messages::rakp::Test;
 use messages::rakp_1::Username;
 use refusal::Outcome;
 use refusal::Refusal;
@@ -29,20 +28,20 @@ use refusal::Refusal;
 const REQUEST_LEN: usize = 32;
 
 // The tests on the id and the level.
-fn check_asked(asked: Asked) -> Test
-    ensures { λ r. ⌜ tested r ≡ readyBegin asked ⌝ }
+fn check_asked(asked: Asked) -> Outcome
+    ensures { λ r. ⌜ told r ≡ readyBegin asked ⌝ }
 {
     if asked.console == 0 {
-        return Test::Refused(Refusal::ZeroRemoteConsoleSessionId);
+        return Outcome::Refused(Refusal::ZeroRemoteConsoleSessionId);
     }
     let level = asked.level;
     let RequestedPrivilege::Level(b) = level else {
-        return Test::Passed;
+        return Outcome::Done;
     };
     if messages::auth::is_level(b) {
-        return Test::Passed;
+        return Outcome::Done;
     }
-    Test::Refused(Refusal::InvalidPrivilegeLevel(b))
+    Outcome::Refused(Refusal::InvalidPrivilegeLevel(b))
 }
 
 // What Begin fixes for the whole exchange.
@@ -98,13 +97,13 @@ pub fn begin(asked: Asked, name: &[u8], out: &mut [u8]) -> Stepped
         closed (now (out .entry)) r (now (out .exit)) ⌝ }
 {
     match check_asked(asked) {
-        Test::Refused(r) => state::refuse(state::make_closed(), r),
-        Test::Passed => {
+        Outcome::Refused(r) => state::refuse(state::make_closed(), r),
+        Outcome::Done => {
             let named = Username::new(name);
             let answer = named.answer;
             match answer {
-                Test::Refused(r) => state::refuse(state::make_closed(), r),
-                Test::Passed => {
+                Outcome::Refused(r) => state::refuse(state::make_closed(), r),
+                Outcome::Done => {
                     if out.len() < REQUEST_LEN {
                         return state::refuse(state::make_closed(), Refusal::OutputTooShort);
                     }

@@ -4,7 +4,8 @@ ghost use Prim.Native.Nat.{_≤_};
 ghost use lib.Dec.{eqb};
 ghost use lib.ListN.{length};
 ghost use Rattle.refusal.specs.Order.{accept};
-ghost use Rattle.messages.specs.Answers.{tested, toldOpen};
+ghost use Rattle.refusal.specs.Outcome.{told};
+ghost use Rattle.messages.specs.Answers.{toldOpen};
 ghost use Rattle.messages.specs.OpenSession.{responseNumbers};
 ghost use Rattle.session.specs.Constants.{oneSize};
 ghost use Rattle.session.specs.Record.{agreedOf, answered, confidentialityIf, integrityIf};
@@ -20,7 +21,6 @@ use crate::TAG_1;
 use crate::state;
 use messages::open_session::OpenSessionAnswer;
 use messages::open_session::OpenSessionResponse;
-use messages::rakp::Test;
 use messages::rakp_1::RakpMessage1;
 use messages::rakp_1::Username;
 use refusal::Outcome;
@@ -32,18 +32,18 @@ use suite::Integrity;
 const UP_TO_NAME: usize = 28;
 
 // What is tested before the message is looked at.
-fn check_call(state: Record, room: usize) -> Test
-    ensures { λ r. ⌜ tested r ≡ readyOpen state room ⌝ }
+fn check_call(state: Record, room: usize) -> Outcome
+    ensures { λ r. ⌜ told r ≡ readyOpen state room ⌝ }
 {
     if !state::is_in_step(state, 1) {
-        return Test::Refused(Refusal::WrongStep);
+        return Outcome::Refused(Refusal::WrongStep);
     }
     let begun = state.begun;
     let u = begun.username;
     if room < UP_TO_NAME + u.len {
-        return Test::Refused(Refusal::OutputTooShort);
+        return Outcome::Refused(Refusal::OutputTooShort);
     }
-    Test::Passed
+    Outcome::Done
 }
 
 // Whether the algorithms are among those that this layer has.
@@ -168,8 +168,8 @@ pub fn open_response(state: Record, message: &[u8], rm: [u8; 16], out: &mut [u8]
     ensures { λ r. ⌜ StepPromise (openOf state (now (message .entry)) rm (length (now (out .entry)))) state (now (out .entry)) r (now (out .exit)) ⌝ }
 {
     match check_call(state, out.len()) {
-        Test::Refused(r) => state::refuse(state, r),
-        Test::Passed => match read_response(state, message) {
+        Outcome::Refused(r) => state::refuse(state, r),
+        Outcome::Done => match read_response(state, message) {
             OpenSessionAnswer::Refused(r) => state::refuse(state::make_closed(), r),
             OpenSessionAnswer::Response(r) => write_message_1(state, r, rm, out),
         },

@@ -1,5 +1,5 @@
 -- `check_message` keeps its promise: one law for each answer.
-use Rattle.messages.specs.Promises.{verdict}
+use Rattle.refusal.specs.Order.{done}
 use Rattle.messages.specs.Answers.{told4}
 use mathlib.Core.Path.{sym, _∙_, ap}
 use Rattle.session.proofs.Makes.{value-in, same-four}
@@ -14,14 +14,14 @@ returns c =
     let a = c .before .before .before .before .before .before .before .args in
     let f = c .before .before .before .f .given in
     let e = sym (c .before .before .before .before .before .from-data .ensures) ∙ ap told4 (f .1) in
-    sym (ap verdict (four27 (a .state) (a .message .now) (f .0 .0) e (c .if1 .taken)))
+    sym (ap done (four27 (a .state) (a .message .now) (f .0 .0) e (c .if1 .taken)))
 
 returns-2 : tie.Need-returns-2
 returns-2 c =
     let a = c .before .before .before .before .before .before .before .before .before .before .before .args in
     let f = c .before .before .before .before .before .before .before .f .given in
     let e = sym (c .before .before .before .before .before .before .before .before .before .from-data .ensures) ∙ ap told4 (f .1) in
-    sym (ap verdict (four28 (a .state) (a .message .now) (f .0 .0) e (c .before .before .before .before .if1 .left) (c .if2 .taken)))
+    sym (ap done (four28 (a .state) (a .message .now) (f .0 .0) e (c .before .before .before .before .if1 .left) (c .if2 .taken)))
 
 sub-same : tie.Need-sub-same
 sub-same c =
@@ -47,13 +47,13 @@ returns-3 c =
     let e = sym got ∙ ap told4 (f .1) in
     let n = test-no (same-four (a .state) (a .message .now) (f .0 .0 .value .at) (v .result) (s .result) (v .ensures) (s .ensures)) (c .if3 .taken) in
     let i1 = c .before .before .before .before .before .before .before .before .before .before .if1 .left in
-    sym (ap verdict (four32 (a .state) (a .message .now) (f .0 .0) e i1 (c .before .before .before .before .before .before .if2 .left) n))
+    sym (ap done (four32 (a .state) (a .message .now) (f .0 .0) e i1 (c .before .before .before .before .before .before .if2 .left) n))
 
 returns-4 : tie.Need-returns-4
 returns-4 c =
     let a = c .before .before .before .before .before .args in
     let e = sym (c .before .before .before .from-data .ensures) ∙ ap told4 (c .before .r .given .1) in
-    sym (ap verdict (heard-four-refused (a .state) (a .message .now) _ _ e))
+    sym (ap done (heard-four-refused (a .state) (a .message .now) _ _ e))
 
 returns-5 : tie.Need-returns-5
 returns-5 c =
@@ -65,7 +65,7 @@ returns-5 c =
     let e = sym got ∙ ap told4 (f .1) in
     let y = test-yes (same-four (a .state) (a .message .now) (f .0 .0 .value .at) (v .result) (s .result) (v .ensures) (s .ensures)) (c .if3 .left) in
     let i1 = c .before .before .before .before .before .before .before .before .before .before .if1 .left in
-    sym (ap verdict (four-heard (a .state) (a .message .now) (f .0 .0) e i1 (c .before .before .before .before .before .before .if2 .left) y))
+    sym (ap done (four-heard (a .state) (a .message .now) (f .0 .0) e i1 (c .before .before .before .before .before .before .if2 .left) y))
 
 pub check-message-spec : {M : Type 1} → statement M
 check-message-spec =

@@ -1,16 +1,16 @@
 -- `message_2` keeps its promise: the first stage keeps the record, the second closes it, the third proves.
 use Rattle.session.specs.Steps.{twoOf}
 use lib.ListN.{length}
-use Rattle.messages.specs.Answers.{tested}
+use Rattle.refusal.specs.Outcome.{told}
 use mathlib.Core.Path.{sym, _∙_, ap}
 use native.Mathlib.Omega.{arith}
-use Rattle.refusal.proofs.Order.{then-refuse}
+use Rattle.refusal.proofs.Order.{then-refuse, done-no}
 use Rattle.messages.proofs.Reading.{test-passed, test-refused}
 use Rattle.session.proofs.Makes.{heard-now, code-in}
 use Rattle.session.specs.Constants.{longestPassword}
 use Rattle.session.proofs.Chains.{two-known}
 use Rattle.session.proofs.Refusals.{ready-two-keeps, heard-two-shuts}
-use Rattle.session.proofs.Stages.{kept, shut, second-stop, second-go, promise-as, verdict-no}
+use Rattle.session.proofs.Stages.{kept, shut, second-stop, second-go, promise-as}
 use borrow.Author.Needs.{needs}
 use Rattle.session.proofs.keying.message_2.Statement.{statement}
 use Rattle.session.proofs.keying.message_2.Tie as tie
@@ -41,9 +41,9 @@ returns-2 c =
     let r = c .before .before .before .answer .given in
     let call = c .before .before .before .before .before .before .before .before .before .check-call .ensures in
     let t = test-passed _ _ call (c .before .before .before .before .before .before .before .enum-told .given .1) in
-    let u = verdict-no _ _ _ (sym (c .before .before .before .before .before .before .read-message .ensures .answer) ∙ ap tested (r .1)) in
+    let u = done-no _ _ _ (sym (c .before .before .before .before .before .before .read-message .ensures .answer) ∙ ap told (r .1)) in
     let k = heard-two-shuts (a .state) (a .message .now) _ _ u in
-    shut _ (a .state) (a .out .now) (r .0 .0) _ _ (second-stop _ _ _ 0 _ _ t u) k (c .before .make-closed .ensures) (c .refuse2 .ensures)
+    shut _ (a .state) (a .out .now) (r .0 .0) _ _ (second-stop _ _ _ tt _ _ t u) k (c .before .make-closed .ensures) (c .refuse2 .ensures)
 
 returns-3 : tie.Need-returns-3
 unfolding twoOf
@@ -53,7 +53,7 @@ returns-3 c =
     let call = c .before .before .before .before .before .before .before .before .before .before .check-call .ensures in
     let t = test-passed _ _ call (c .before .before .before .before .before .before .before .before .enum-told .given .1) in
     let u = heard-now _ (d .result) (d .ensures) (c .before .before .before .before .enum-told2 .given .1) in
-    promise-as _ _ (a .state) (a .out .now) _ _ (second-go _ _ _ 0 _ t u) (c .before .before .answer-message .ensures)
+    promise-as _ _ (a .state) (a .out .now) _ _ (second-go _ _ _ tt _ t u) (c .before .before .answer-message .ensures)
 
 pub message-2-spec : {M : Type 1} → statement M
 message-2-spec =

@@ -26,7 +26,7 @@ returns c =
     let t = test-passed _ _ call (c .before .before .before .before .before .before .enum-told .given .1) in
     let u = passed-name _ _ (c .before .before .before .before .before .new .ensures) (c .before .before .before .enum-told2 .given .1) in
     let e = need-no _ _ _ _ (lt-leb requestSize (length (a .out .now)) (omega arith)) in
-    begin-stop _ (a .out .now) OutputTooShort _ _ (second-go _ _ _ 0 _ t (u .1) ∙ e) refl (c .before .make-closed3 .ensures) (c .refuse3 .ensures)
+    begin-stop _ (a .out .now) OutputTooShort _ _ (second-go _ _ _ tt _ t (u .1) ∙ e) refl (c .before .make-closed3 .ensures) (c .refuse3 .ensures)
 
 returns-2 : tie.Need-returns-2
 unfolding beginOf
@@ -46,7 +46,7 @@ returns-3 c =
     let t = test-passed _ _ call (c .before .before .before .before .before .before .enum-told .given .1) in
     let u = refused-name _ _ (r .0 .0) (c .before .before .before .before .before .new .ensures) (r .1) in
     let q = username-quiet (a .name .now) _ _ u in
-    begin-stop _ (a .out .now) (r .0 .0) _ _ (second-stop _ _ _ 0 _ _ t u) q (c .before .make-closed2 .ensures) (c .refuse2 .ensures)
+    begin-stop _ (a .out .now) (r .0 .0) _ _ (second-stop _ _ _ tt _ _ t u) q (c .before .make-closed2 .ensures) (c .refuse2 .ensures)
 
 returns-4 : tie.Need-returns-4
 unfolding beginOf
@@ -58,7 +58,7 @@ returns-4 c =
     let u = passed-name _ _ name (c .before .before .before .before .before .before .enum-told2 .given .1) in
     let e = pass _ _ _ _ (le-leb requestSize (length (a .out .now)) (omega arith)) refl in
     let f = ap (λ (x : Username). accept (madeBegin (a .asked) x)) (sym (u .2)) in
-    promise-as _ _ closed (a .out .now) _ _ (second-go _ _ _ 0 _ t (u .1) ∙ e ∙ f) (c .before .before .write-request .ensures)
+    promise-as _ _ closed (a .out .now) _ _ (second-go _ _ _ tt _ t (u .1) ∙ e ∙ f) (c .before .before .write-request .ensures)
 
 pub begin-spec : {M : Type 1} → statement M
 begin-spec =

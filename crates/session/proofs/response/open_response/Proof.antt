@@ -38,7 +38,7 @@ returns-2 c =
     let t = test-passed _ _ call (c .before .before .before .before .before .before .enum-told .given .1) in
     let u = sym (c .before .before .before .before .before .read-response .ensures) ∙ ap toldOpen (r .1) in
     let k = heard-open-shuts (a .state) (a .message .now) _ _ u in
-    shut _ (a .state) (a .out .now) (r .0 .0) _ _ (second-stop _ _ _ 0 _ _ t u) k (c .before .make-closed .ensures) (c .refuse2 .ensures)
+    shut _ (a .state) (a .out .now) (r .0 .0) _ _ (second-stop _ _ _ tt _ _ t u) k (c .before .make-closed .ensures) (c .refuse2 .ensures)
 
 returns-3 : tie.Need-returns-3
 unfolding openOf
@@ -48,7 +48,7 @@ returns-3 c =
     let t = test-passed _ _ call (c .before .before .before .before .before .before .before .before .enum-told .given .1) in
     let read = c .before .before .before .before .before .before .before .read-response .ensures in
     let u = sym read ∙ ap toldOpen (c .before .before .before .before .before .r3 .given .1) in
-    promise-as _ _ (a .state) (a .out .now) _ _ (second-go _ _ _ 0 _ t u) (c .before .before .write-message-1 .ensures)
+    promise-as _ _ (a .state) (a .out .now) _ _ (second-go _ _ _ tt _ t u) (c .before .before .write-message-1 .ensures)
 
 pub open-response-spec : {M : Type 1} → statement M
 open-response-spec =

@@ -14,7 +14,7 @@ use Rattle.octets.specs.Place.{part}
 use Rattle.octets.specs.Equal.{same}
 use Rattle.framing.specs.Known.{known}
 use Rattle.framing.specs.Suite.{Suite, Laws}
-use Rattle.framing.specs.Packet.{Message, Filling, Legal, bit, counting, plainOf, bodyOf, headerOf, framed, covered, build}
+use Rattle.framing.specs.Packet.{Message, Filling, Legal, bit, counting, plainOf, bodyOf, headerOf, framed, covered, trailer, build}
 use Rattle.framing.specs.Read.{longestPacket, messageOf, bodyLength, headOf, coverage, codeOf, trailerOf, beforeTrailer, unpadded, decrypted}
 use Rattle.framing.specs.Read.{payloadIn, bodyIn, payloadBehind, restOf, readOf, readWith}
 use Rattle.octets.proofs.Bytes.{bytes-append, bytes-cons, bytes-nil}
@@ -123,10 +123,6 @@ module _ (S : Suite) where
       (ap accept (ap (λ (j : ℕ). j - 2 - getD l (j - 2) 0) c ∙ ap (λ (x : ℕ). k - 2 - x) g)))))
 
 module _ (S : Suite) (M : Message) (F : Filling) where
-  -- a packet is the header, the body, and with integrity the trailer
-  pub tail : List ℕ
-  tail = cond (S .auth) (F .pads ++ (length (F .pads) ∷ 0x07 ∷ S .mac (covered S M F))) []
-
   pub build-auth : S .auth ≡ true → build S M F ≡ covered S M F ++ S .mac (covered S M F)
   unfolding build
   build-auth e = cond-true (S .auth) (covered S M F ++ S .mac (covered S M F)) (framed S M F) e
@@ -135,17 +131,18 @@ module _ (S : Suite) (M : Message) (F : Filling) where
   unfolding build
   build-bare e = cond-false (S .auth) (covered S M F ++ S .mac (covered S M F)) (framed S M F) e
 
-  pub build-is : build S M F ≡ framed S M F ++ tail
-  unfolding covered tail
+  -- a packet is the header, the body, and with integrity the trailer
+  pub build-is : build S M F ≡ framed S M F ++ trailer S M F
+  unfolding covered trailer
   build-is =
       by-cases (S .auth)
       (λ e. build-auth e ∙ append-assoc (framed S M F) _ _
       ∙ ap (λ (l : List ℕ). framed S M F ++ l) (append-assoc (F .pads) _ _ ∙ sym (cond-true (S .auth) _ [] e)))
       (λ e. build-bare e ∙ sym (append-nil (framed S M F)) ∙ ap (λ (l : List ℕ). framed S M F ++ l) (sym (cond-false (S .auth) _ [] e)))
 
-  pub build-whole : build S M F ≡ headerOf S M (length (bodyOf S M F)) ++ (bodyOf S M F ++ tail)
+  pub build-whole : build S M F ≡ headerOf S M (length (bodyOf S M F)) ++ (bodyOf S M F ++ trailer S M F)
   unfolding framed
-  build-whole = build-is ∙ append-assoc (headerOf S M (length (bodyOf S M F))) (bodyOf S M F) tail
+  build-whole = build-is ∙ append-assoc (headerOf S M (length (bodyOf S M F))) (bodyOf S M F) (trailer S M F)
 
   pub length-framed : length (framed S M F) ≡ 12 + length (bodyOf S M F)
   unfolding framed headerOf
@@ -187,9 +184,9 @@ module _ (S : Suite) (L : Laws S) where
     unfolding framed
     framed-body = body-built S M (bodyOf S M F) (ok .body-fits) payload-built
 
-    pub length-tail : length (tail S M F) ≤ 257 + S .m
-    unfolding tail
-    length-tail =
+    pub length-trailer : length (trailer S M F) ≤ 257 + S .m
+    unfolding trailer
+    length-trailer =
         by-cases (S .auth)
         (λ e. let few : length (F .pads) ≤ 255 = ok .pads-few e in
         let size : length (F .pads ++ (length (F .pads) ∷ 0x07 ∷ S .mac (covered S M F))) ≤ 257 + S .m
@@ -234,12 +231,12 @@ module _ (S : Suite) (L : Laws S) where
         let l = build S M F in
         let b = bodyOf S M F in
         let h = headerOf S M (length b) in
-        let whole : l ≡ h ++ (b ++ (tail S M F)) = build-whole S M F in
-        let fits : length (b ++ (tail S M F)) + 12 ≤ longestPacket S = simp length-append (omega (arith, length-tail, ok .body-fits)) in
-        then-accept (headOf S l) (restOf S (codeOf S l) l) (M .ty) (ap (headOf S) whole ∙ head-built S M (length b) (b ++ (tail S M F)) (ok .ty-known) fits)
+        let whole : l ≡ h ++ (b ++ (trailer S M F)) = build-whole S M F in
+        let fits : length (b ++ (trailer S M F)) + 12 ≤ longestPacket S = simp length-append (omega (arith, length-trailer, ok .body-fits)) in
+        then-accept (headOf S l) (restOf S (codeOf S l) l) (M .ty) (ap (headOf S) whole ∙ head-built S M (length b) (b ++ (trailer S M F)) (ok .ty-known) fits)
         ∙ then-accept (payloadBehind S (codeOf S l) l) _ (M .payload)
         (then-accept (beforeTrailer S (codeOf S l) l) _ (length (framed S M F)) trailer-built
-        ∙ ap (bodyIn S) (ap (take (length (framed S M F))) (build-is S M F) ∙ take-at (framed S M F) (tail S M F) (length (framed S M F)) refl)
+        ∙ ap (bodyIn S) (ap (take (length (framed S M F))) (build-is S M F) ∙ take-at (framed S M F) (trailer S M F) (length (framed S M F)) refl)
         ∙ framed-body)
         ∙ ap accept (ap (λ (x : List ℕ). messageOf (M .ty) x (M .payload)) whole
-        ∙ message-built S M (length b) (b ++ (tail S M F)) (ok .id-fits) (ok .seq-fits))
+        ∙ message-built S M (length b) (b ++ (trailer S M F)) (ok .id-fits) (ok .seq-fits))

@@ -1,10 +1,10 @@
 -- The marked cases hold.
 use Prim.Native.Nat.{ℕ, _+_, _-_, _*_, _%_, _≤_, _<_}
 use native.Mathlib.Omega.{arith}
-use mathlib.Core.Bool.{Bool, false, cond, not}
+use mathlib.Core.Bool.{Bool, true, false, false≢true, cond, not}
 use mathlib.Core.List.{List, [], _∷_, _++_}
-use mathlib.Core.Path.{_≡_, refl, sym, _∙_, ap, ap₂, subst}
-use lib.ListN.{length, take, drop, length-drop, length-replicate}
+use mathlib.Core.Path.{_≡_, refl, sym, _∙_, ap, subst}
+use lib.ListN.{length, take, drop, replicate, length-drop}
 use lib.Dec.{leb, eqb}
 use lib.Seq.{length-take-le}
 use borrow.Author.Tests.{le-leb, lt-leb, eq-eqb}
@@ -16,15 +16,17 @@ use Rattle.running.specs.Hash.{Hash, Sized}
 use Rattle.running.proofs.Sizes.{mac-count-short}
 use Rattle.framing.specs.Known.{known}
 use Rattle.framing.specs.Suite.{Suite}
-use Rattle.framing.specs.Packet.{Message, Filling, bit, plainOf, bodyOf, headerOf, framed}
+use Rattle.framing.specs.Packet.{Message, Filling, bit, plainOf, bodyOf, headerOf, framed, covered, build}
 use Rattle.framing.specs.Read.{longestPacket, messageOf, bodyLength, headOf, coverage, codeOf, trailerOf, beforeTrailer, decrypted, payloadIn}
 use Rattle.framing.specs.Read.{bodyIn, payloadBehind, restOf, readOf, readWith}
 use Rattle.framing.specs.Write.{leastP, leastQ, bodySize, trailerSize, packetSize, ourFilling, ours, longestPayload, roomOf, writeAfter}
-use Rattle.framing.specs.Outer.{writeOf, writeDatagramOf}
-use Rattle.framing.specs.Marked.{Every, Sealed, Encrypted, Both, Refuses, Body, Padded, TooFew, GoesOn, Compresses, markedCases}
-use Rattle.octets.proofs.Order.{cond-true, cond-false}
+use Rattle.framing.specs.Outer.{outer, writeOf, writeDatagramOf}
+use Rattle.framing.specs.Marked.{Every, Taken, fillingOf, sizeOf, Writes, Sealed, Encrypted, Both, Body, Padded}
+use Rattle.framing.specs.Marked.{TooFew, GoesOn, Compresses, markedCases}
+use Rattle.octets.proofs.Order.{by-cases, cond-true, cond-false}
 use Rattle.framing.proofs.Complete.{trailer-is, build-bare}
-use Rattle.framing.proofs.RoundTrip.{lengths, size-body, size-ours}
+use Rattle.framing.proofs.RoundTrip.{size-body, size-ours}
+use Rattle.framing.proofs.Rooms.{room-14, room-done}
 
 -- what follows once head and trailer let a packet pass
 reached : (S : Suite) (l : List ℕ) (ty k : ℕ) {r : Res Message} → headOf S l ≡ accept ty → beforeTrailer S (codeOf S l) l ≡ accept k
@@ -34,45 +36,88 @@ reached S l ty k h t e =
     then-accept (headOf S l) (restOf S (codeOf S l) l) ty h
     ∙ ap (λ (x : Res (List ℕ)). andThen x (λ payload. accept (messageOf ty l payload))) (then-accept (beforeTrailer S (codeOf S l) l) _ k t) ∙ e
 
--- sizes
-pads-count : (S : Suite) (M : Message) (iv : List ℕ) → length (ourFilling S iv (M .payload) .pads) ≡ leastQ (12 + bodySize (S .aes) (length (M .payload)))
-pads-count S M iv = length-replicate {A = ℕ} (leastQ (12 + bodySize (S .aes) (length (M .payload)))) 0xFF
+-- the writer's answers, by the lengths
+same-build : (S : Suite) (M : Message) (F G : Filling) → bodyOf S M F ≡ bodyOf S M G → F .pads ≡ G .pads → build S M F ≡ build S M G
+unfolding build covered framed
+same-build S M F G e h =
+    let cover : covered S M F ≡ covered S M G = λ i. (headerOf S M (length (e i)) ++ e i) ++ (h i ++ (length (h i) ∷ 0x07 ∷ [])) in
+    λ i. cond (S .auth) (cover i ++ S .mac (cover i)) (headerOf S M (length (e i)) ++ e i)
 
-sealed : (n q t : ℕ) → leastQ (12 + n) ≡ q → 12 + n + (leastQ (12 + n) + 2 + 12) ≡ t → Sealed n q t
-sealed n q t hq ht S L a g m M iv hi hn = (
-  pads-count S M iv ∙ ap₂ (λ (b : Bool) (k : ℕ). leastQ (12 + bodySize b k)) a hn ∙ hq,
-  size-ours S (lengths S L) M iv hi ∙ (λ i. 12 + bodySize (a i) (hn i) + trailerSize (g i) (m i) (12 + bodySize (a i) (hn i))) ∙ ht,
+module _ (S : Suite) (M : Message) (iv : List ℕ) (z : Taken) (hp : S .aes ≡ true → leastP (length (M .payload)) ≡ z .p)
+    (hb : bodySize (S .aes) (length (M .payload)) ≡ z .body) (hq : leastQ (12 + z .body) ≡ z .q) where
+  abbrev n : ℕ
+  n = length (M .payload)
+
+  same-body : bodyOf S M (ourFilling S iv (M .payload)) ≡ bodyOf S M (fillingOf iv z)
+  unfolding bodyOf
+  same-body =
+      by-cases (S .aes)
+      (λ a i. cond (S .aes) (iv ++ S .enc iv (plainOf (M .payload) (hp a i))) (M .payload))
+      (λ a. cond-false (S .aes) _ (M .payload) a ∙ sym (cond-false (S .aes) _ (M .payload) a))
+
+  same-packet : ours S M iv ≡ build S M (fillingOf iv z)
+  unfolding ours
+  same-packet = same-build S M _ _ same-body (ap (λ (k : ℕ). replicate k 0xFF) (ap (λ (b : ℕ). leastQ (12 + b)) hb ∙ hq))
+
+  same-size : packetSize S n ≡ sizeOf S z
+  same-size =
+      by-cases (S .auth)
+      (λ g. (λ i. 12 + hb i + trailerSize (g i) (S .m) (12 + hb i)) ∙ ap (λ (k : ℕ). 12 + z .body + (k + 2 + S .m)) hq
+      ∙ ap (λ (b : Bool). 12 + z .body + cond b (z .q + 2 + S .m) 0) (sym g))
+      (λ g. (λ i. 12 + hb i + trailerSize (g i) (S .m) (12 + hb i)) ∙ ap (λ (b : Bool). 12 + z .body + cond b (z .q + 2 + S .m) 0) (sym g))
+
+  module _ (h : n ≤ 65535) (g : n ≤ longestPayload (S .aes)) where
+    written : (before : List ℕ) (room : ℕ) → length before + sizeOf S z ≤ room → writeAfter before S M iv room ≡ accept (before ++ build S M (fillingOf iv z))
+    unfolding writeAfter
+    written before room k =
+        let size : length before + sizeOf S z ≡ length before + packetSize S n = ap (λ (i : ℕ). length before + i) (sym same-size) in
+        then-accept _ _ _ (sym (room-done S (length before) n room h g _ size k)) ∙ ap (λ (x : List ℕ). accept (before ++ x)) same-packet
+
+    writes : Writes S M iv z
+    unfolding writeOf writeDatagramOf
+    writes =
+        record {
+          body = λ L hi. ap length (sym same-body) ∙ size-body S L M iv hi ∙ hb;
+          size = λ L hi. ap length (sym same-packet) ∙ size-ours S L M iv hi ∙ same-size;
+          packet = λ room k. written [] room (omega arith);
+          datagram = written outer;
+        }
+
+sealed : (n q t : ℕ) → leastQ (12 + n) ≡ q → n ≤ 65535 → 12 + n + (q + 2 + 12) ≡ t → Sealed n q t
+sealed n q t hq h ht S a g m = (
+  λ M iv hn.
+      let few : length (M .payload) ≤ 65535 = omega arith in
+      writes S M iv _ (λ b. absurd (false≢true (sym a ∙ b))) ((λ i. bodySize (a i) (length (M .payload))) ∙ hn) hq few
+      (subst (λ (b : Bool). length (M .payload) ≤ longestPayload b) (sym a) few),
+  (λ i. 12 + n + cond (g i) (q + 2 + m i) 0) ∙ ht,
 )
 
-encrypted : (n p b : ℕ) → leastP n ≡ p → 16 + n + leastP n + 1 ≡ b → Encrypted n p b
-encrypted n p b hp hb S L a M iv hi hn =
-    (ap leastP hn ∙ hp, size-body S (lengths S L) M iv hi ∙ (λ i. bodySize (a i) (hn i)) ∙ hb)
+encrypted : (n : ℕ) (z : Taken) → leastP n ≡ z .p → 16 + n + leastP n + 1 ≡ z .body → leastQ (12 + z .body) ≡ z .q → n ≤ 65503 → Encrypted n (accept z)
+encrypted n z hp hb hq h S a M iv hn =
+    let few : length (M .payload) ≤ 65535 = omega arith in
+    let fits : length (M .payload) ≤ 65503 = omega arith in
+    writes S M iv z (λ _. ap leastP hn ∙ hp) ((λ i. bodySize (a i) (hn i)) ∙ hb) hq few
+    (subst (λ (b : Bool). length (M .payload) ≤ longestPayload b) (sym a) fits)
 
-both : (n p b q t : ℕ) → leastP n ≡ p → 16 + n + leastP n + 1 ≡ b → leastQ (12 + b) ≡ q → 12 + b + (leastQ (12 + b) + 2 + 12) ≡ t → Both n p b q t
-both n p b q t hp hb hq ht S L a g m M iv hi hn =
-    let e : bodySize (S .aes) (length (M .payload)) ≡ b = (λ i. bodySize (a i) (hn i)) ∙ hb in (
-      ap leastP hn ∙ hp,
-      size-body S (lengths S L) M iv hi ∙ e,
-      pads-count S M iv ∙ ap (λ (k : ℕ). leastQ (12 + k)) e ∙ hq,
-      size-ours S (lengths S L) M iv hi ∙ (λ i. 12 + e i + trailerSize (g i) (m i) (12 + e i)) ∙ ht,
-    )
+both : (n : ℕ) (z : Taken) (t : ℕ) → Encrypted n (accept z) → 12 + z .body + (z .q + 2 + 12) ≡ t → Both n z t
+both n z t f ht S a g m = (f S a, (λ i. 12 + z .body + cond (g i) (z .q + 2 + m i) 0) ∙ ht)
 
-refuses : (n : ℕ) → 65503 < n → n ≤ 65535 → Refuses n 14
-unfolding writeOf writeDatagramOf writeAfter roomOf
-refuses n h k S a M iv room e =
+too-long : (n : ℕ) → 65503 < n → n ≤ 65535 → Encrypted n (refuse 14 0)
+unfolding writeOf writeDatagramOf writeAfter
+too-long n h k S a M iv hn =
     let few : length (M .payload) ≤ 65535 = omega arith in
     let many : 65503 < length (M .payload) = omega arith in
-    let test : leb (length (M .payload)) (longestPayload (S .aes)) ≡ false
-    = ap (λ (b : Bool). leb (length (M .payload)) (longestPayload b)) a ∙ lt-leb _ _ many in
-    record {
-      packet = then-refuse _ _ 14 0 (pass _ _ _ _ (le-leb _ _ few) (need-no _ _ _ _ test));
-      datagram = then-refuse _ _ 14 0 (pass _ _ _ _ (le-leb _ _ few) (need-no _ _ _ _ test));
-    }
+    let over : longestPayload (S .aes) < length (M .payload) = subst (λ (b : Bool). longestPayload b < length (M .payload)) (sym a) many in
+    record { packet = λ room. refused few over [] room; datagram = λ room. refused few over outer room }
+  where
+    refused : length (M .payload) ≤ 65535 → longestPayload (S .aes) < length (M .payload) → (before : List ℕ) (room : ℕ)
+        → writeAfter before S M iv room ≡ refuse 14 0
+    refused few over before room = then-refuse _ _ 14 0 (sym (room-14 S (length before) (length (M .payload)) room few over))
 
 -- an encrypted body that is told rightly comes to the tests of `decrypted`
 body : (n r : ℕ) → ((S : Suite) (b : List ℕ) → length b ≡ n → decrypted S b ≡ refuse r 0) → Body n r
 unfolding bodyIn payloadIn
-body n r f S L a l ty d e =
+body n r f S a l ty d e =
     let x : List ℕ = take (12 + n) l in
     let long : 12 ≤ length x = omega (arith, d .within) in
     let rest : length x - 12 ≡ n = omega (arith, d .within) in
@@ -166,15 +211,15 @@ _also_ a b = (a, b)
 pub marked : {C : Type 0} (H : Hash C) → Sized H → Every (markedCases H)
 marked H z =
     record { reads = first-read; writes = first-written }
-    also sealed 0 2 28 refl refl
-    also sealed 1 1 28 refl refl
-    also sealed 2 0 28 refl refl
-    also sealed 3 3 32 refl refl
-    also both 0 15 32 2 60 refl refl refl refl
-    also encrypted 15 0 32 refl refl
-    also encrypted 16 15 48 refl refl
-    also encrypted 65503 0 65520 refl refl
-    also refuses 65504 (omega arith) (omega arith)
+    also sealed 0 2 28 refl (omega arith) refl
+    also sealed 1 1 28 refl (omega arith) refl
+    also sealed 2 0 28 refl (omega arith) refl
+    also sealed 3 3 32 refl (omega arith) refl
+    also both 0 _ 60 (encrypted 0 (record { p = 15; q = 2; body = 32 }) refl refl refl (omega arith)) refl
+    also encrypted 15 _ refl refl refl (omega arith)
+    also encrypted 16 _ refl refl refl (omega arith)
+    also encrypted 65503 _ refl refl refl (omega arith)
+    also too-long 65504 (omega arith) (omega arith)
     also body-15
     also body-16
     also body-31

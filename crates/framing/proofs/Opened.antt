@@ -3,25 +3,23 @@ use Prim.Native.Nat.{ℕ, _+_, _-_, _≤_}
 use native.Mathlib.Omega.{arith}
 use mathlib.Core.Bool.{Bool, true, false}
 use mathlib.Core.List.{List, [], _∷_, _++_, append-assoc}
-use mathlib.Core.Path.{_≡_, refl, sym, _∙_, ap, ap₂}
-use lib.ListN.{length, take, drop, length-append}
+use mathlib.Core.Logic.{_↔_, _⊎_, inl, inr, ⊎-elim}
+use mathlib.Core.Path.{_≡_, refl, sym, _∙_, ap, ap₂, subst}
+use lib.ListN.{length, take, drop, length-append, length-drop}
 use lib.Seq.{take-at, drop-at, length-take-le}
-use borrow.Author.Tests.{le-leb}
-use Rattle.refusal.specs.Order.{Res, accept}
-use Rattle.refusal.proofs.Order.{then-inv}
-use Rattle.octets.specs.Bytes.{Bytes}
+use borrow.Author.Tests.{leb-true, leb-false, le-leb, lt-leb}
+use Rattle.refusal.specs.Order.{Res}
 use Rattle.octets.specs.Place.{part, pasted}
 use Rattle.framing.specs.Suite.{Suite, Laws}
-use Rattle.framing.specs.Packet.{Message, Filling, Legal, counting, plainOf, bodyOf, headerOf, build}
-use Rattle.framing.specs.Read.{readOf, bodyLength, opened, leftBy, leftOf}
-use Rattle.framing.specs.Outer.{outerOf, readDatagramOf, leftDatagram}
-use Rattle.framing.specs.Payload.{payloadOf, payloadStart}
-use Rattle.octets.proofs.Bytes.{bytes-drop}
+use Rattle.framing.specs.Packet.{Message, Filling, Legal, counting, plainOf, bodyOf, headerOf, trailer, build}
+use Rattle.framing.specs.Read.{bodyLength, opened, leftBy, leftOf}
+use Rattle.framing.specs.Outer.{leftDatagram}
+use Rattle.framing.specs.Frames.{FrameOf, DatagramOf}
+use Rattle.framing.specs.Payload.{payloadStart, payloadFits, payloadOf, PassesOrNone}
 use Rattle.octets.proofs.Number.{unle-le}
 use Rattle.octets.proofs.Order.{by-cases, cond-true, cond-false}
-use Rattle.framing.proofs.Complete.{tail, build-whole, bytes-plain}
-use Rattle.framing.proofs.Outer.{outer-inv}
-use Rattle.framing.proofs.Exactly.{accepts-exactly}
+use Rattle.framing.proofs.Complete.{build-whole, bytes-plain}
+use Rattle.framing.proofs.Exactly.{frame-read, datagram-read}
 
 -- bytes put in the place of as many
 pub pasted-mid : (a x c y : List ℕ) (n : ℕ) → length a ≡ n → length y ≡ length x → pasted (a ++ (x ++ c)) n y ≡ a ++ (y ++ c)
@@ -43,6 +41,23 @@ payload-at a x c b h =
     let fits : payloadStart b + length x ≤ length (a ++ (x ++ c)) = omega arith in
     cond-true _ _ _ (le-leb _ _ fits) ∙ part-mid a x c (payloadStart b) (length x) h refl
 
+-- the part handed out is empty exactly when the length is 0 or the part would pass the packet's end
+pub payload-empty : (packet : List ℕ) (encrypted : Bool) (n : ℕ) → (payloadOf packet encrypted n ≡ []) ↔ PassesOrNone packet encrypted n
+unfolding payloadOf
+payload-empty packet encrypted n = (
+  λ e.
+      let a : ℕ = payloadStart encrypted in
+      by-cases (payloadFits packet encrypted n)
+      (λ f. let fits : a + n ≤ length packet = leb-true _ _ f in
+      let rest : n ≤ length (drop a packet) = omega (arith, length-drop a packet) in
+      inl (sym (length-take-le n (drop a packet) rest) ∙ ap length (sym (cond-true _ _ _ f) ∙ e)))
+      (λ f. inr (leb-false _ _ f)),
+  ⊎-elim
+      (λ z. by-cases (payloadFits packet encrypted n)
+      (λ f. cond-true _ _ _ f ∙ ap (part packet (payloadStart encrypted)) z) (λ f. cond-false _ _ _ f))
+      (λ h. cond-false _ _ _ (lt-leb _ _ h)),
+)
+
 length-header : (S : Suite) (M : Message) (n : ℕ) → length (headerOf S M n) ≡ 12
 unfolding headerOf
 length-header S M n = refl
@@ -53,14 +68,14 @@ length-told S M n t h = unle-le 2 n (omega arith)
 
 module _ (S : Suite) (L : Laws S) (M : Message) (F : Filling) (ok : Legal S M F) where
   -- with AES the bytes after the IV up to the trailer hold payload, pad and p, and no other byte changes
-  pub opened-aes : S .aes ≡ true → opened S (build S M F) ≡ (headerOf S M (length (bodyOf S M F)) ++ F .iv) ++ (plainOf (M .payload) (F .p) ++ tail S M F)
+  pub opened-aes : S .aes ≡ true → opened S (build S M F) ≡ (headerOf S M (length (bodyOf S M F)) ++ F .iv) ++ (plainOf (M .payload) (F .p) ++ trailer S M F)
   unfolding opened bodyOf
   opened-aes e =
       let x : List ℕ = plainOf (M .payload) (F .p) in
       let E : List ℕ = S .enc (F .iv) x in
       let l : List ℕ = build S M F in
       let b : List ℕ = bodyOf S M F in
-      let t : List ℕ = tail S M F in
+      let t : List ℕ = trailer S M F in
       let body : b ≡ F .iv ++ E = cond-true (S .aes) (F .iv ++ S .enc (F .iv) x) (M .payload) e in
       let whole : l ≡ headerOf S M (length b) ++ (b ++ t) = build-whole S M F in
       let split : l ≡ headerOf S M (length b) ++ (F .iv ++ (E ++ t))
@@ -93,7 +108,7 @@ module _ (S : Suite) (L : Laws S) (M : Message) (F : Filling) (ok : Legal S M F)
   unfolding plainOf bodyOf
   payload-opened =
       let h : List ℕ = headerOf S M (length (bodyOf S M F)) in
-      let t : List ℕ = tail S M F in
+      let t : List ℕ = trailer S M F in
       let pad : List ℕ = counting (F .p) ++ (F .p ∷ []) in
       let n : ℕ = length (M .payload) in
       by-cases (S .aes)
@@ -107,25 +122,23 @@ module _ (S : Suite) (L : Laws S) (M : Message) (F : Filling) (ok : Legal S M F)
       ∙ ap (λ (x : List ℕ). h ++ (x ++ t)) (cond-false (S .aes) (F .iv ++ S .enc (F .iv) (plainOf (M .payload) (F .p))) (M .payload) e))
       ∙ payload-at h (M .payload) t (S .aes) (length-header S M (length (bodyOf S M F)) ∙ sym (ap payloadStart e)))
 
--- after an accepted read the payload call, told whether the suite encrypts and the length found, hands out the payload found
+-- after reading the payload call, told whether the suite encrypts and how many bytes, hands out the payload that was carried
 module _ (S : Suite) (L : Laws S) (M : Message) where
-  opened-payload : (l : List ℕ) → Bytes l → readOf S l ≡ accept M → payloadOf (opened S l) (S .aes) (length (M .payload)) ≡ M .payload
-  opened-payload l hb e =
-      let f = accepts-exactly S L l hb M .0 e in
+  frame-opened : (l : List ℕ) → FrameOf S M l → payloadOf (opened S l) (S .aes) (length (M .payload)) ≡ M .payload
+  frame-opened l f =
       ap (λ (x : List ℕ). payloadOf (opened S x) (S .aes) (length (M .payload))) (sym (f .bytes)) ∙ payload-opened S L M (f .filling) (f .legal)
 
-  pub read-payload : (l : List ℕ) → Bytes l → readOf S l ≡ accept M → payloadOf (leftOf S l) (S .aes) (length (M .payload)) ≡ M .payload
+  pub frame-payload : (l : List ℕ) → FrameOf S M l → payloadOf (leftOf S l) (S .aes) (length (M .payload)) ≡ M .payload
   unfolding leftOf
-  read-payload l hb e =
-      ap (λ (r : Res Message). payloadOf (leftBy r l (opened S l)) (S .aes) (length (M .payload))) e ∙ opened-payload l hb e
+  frame-payload l f =
+      ap (λ (r : Res Message). payloadOf (leftBy r l (opened S l)) (S .aes) (length (M .payload))) (frame-read S L M l f) ∙ frame-opened l f
 
   -- of a datagram the packet is what stands behind the first four bytes
-  pub datagram-payload : (d : List ℕ) → Bytes d → readDatagramOf S d ≡ accept M
-      → payloadOf (drop 4 (leftDatagram S d)) (S .aes) (length (M .payload)) ≡ M .payload
-  unfolding leftDatagram readDatagramOf
-  datagram-payload d hb e =
-      let t = then-inv (outerOf d) _ M e in
-      let four : length (take 4 d) ≡ 4 = length-take-le 4 d (outer-inv d (t .0) (t .1) .0) in
-      ap (λ (r : Res Message). payloadOf (drop 4 (leftBy r d (take 4 d ++ opened S (drop 4 d)))) (S .aes) (length (M .payload))) e
+  pub datagram-payload : (d : List ℕ) → DatagramOf S M d → payloadOf (drop 4 (leftDatagram S d)) (S .aes) (length (M .payload)) ≡ M .payload
+  unfolding leftDatagram
+  datagram-payload d f =
+      let behind : drop 4 d ≡ f .packet = ap (drop 4) (sym (f .bytes)) in
+      let four : length (take 4 d) ≡ 4 = ap (λ (x : List ℕ). length (take 4 x)) (sym (f .bytes)) in
+      ap (λ (r : Res Message). payloadOf (drop 4 (leftBy r d (take 4 d ++ opened S (drop 4 d)))) (S .aes) (length (M .payload))) (datagram-read S L M d f)
       ∙ ap (λ (x : List ℕ). payloadOf x (S .aes) (length (M .payload))) (drop-at (take 4 d) (opened S (drop 4 d)) 4 four)
-      ∙ opened-payload (drop 4 d) (bytes-drop 4 d hb) (t .2)
+      ∙ frame-opened (drop 4 d) (subst (FrameOf S M) (sym behind) (f .frame))

@@ -1,25 +1,22 @@
--- What our writer makes is a frame of the rules, with the least pads, and is read back as what it was made from.
-use Prim.Native.Nat.{ℕ, _+_, _%_, _≤_, _<_}
+-- What our writer makes is a frame of the rules, with the least pads.
+use Prim.Native.Nat.{ℕ, _+_, _%_, _≤_}
 use native.Mathlib.Omega.{arith}
 use mathlib.Core.Bool.{Bool, true}
 use mathlib.Core.List.{List, [], _++_}
-use mathlib.Core.Path.{_≡_, sym, _∙_, ap, ap₂, subst}
+use mathlib.Core.Path.{_≡_, refl, sym, _∙_, ap, ap₂, subst}
 use lib.ListN.{length, length-append, length-replicate}
 use lib.Dec.{leb}
 use borrow.Author.Tests.{leb-true}
 use Rattle.refusal.specs.Order.{accept}
-use Rattle.refusal.proofs.Order.{need-inv, accept-inj, then-inv, then-accept}
-use Rattle.octets.specs.Bytes.{Bytes}
-use Rattle.framing.specs.Known.{known}
-use Rattle.framing.specs.Suite.{Suite, Laws}
+use Rattle.refusal.proofs.Order.{need-inv, accept-inj, then-inv}
+use Rattle.framing.specs.Suite.{Suite, Lengths}
 use Rattle.framing.specs.Packet.{Message, Filling, Legal, plainOf, bodyOf, framed, covered}
-use Rattle.framing.specs.Read.{readOf}
 use Rattle.framing.specs.Write.{leastP, leastQ, bodySize, trailerSize, packetSize, ourFilling, ours, longestPayload, roomOf, writeAfter}
-use Rattle.framing.specs.Outer.{outer, outerOf, readDatagramOf, writeOf, writeDatagramOf}
+use Rattle.framing.specs.Outer.{outer, writeOf, writeDatagramOf}
+use Rattle.framing.specs.Frames.{FrameOf, DatagramOf, Given}
 use Rattle.octets.proofs.Bytes.{bytes-replicate}
 use Rattle.octets.proofs.Order.{by-cases, cond-true, cond-false}
-use Rattle.framing.proofs.Outer.{outer-before}
-use Rattle.framing.proofs.Complete.{complete, length-plain, length-framed, build-auth, build-bare}
+use Rattle.framing.proofs.Complete.{length-plain, length-framed, build-auth, build-bare}
 
 -- p serves, and no lesser one does
 pub p-serves : (n : ℕ) → (n + leastP n + 1) % 16 ≡ 0
@@ -34,23 +31,6 @@ q-serves n = omega arith
 
 pub q-least : (n q : ℕ) → (n + q + 2) % 4 ≡ 0 → leastQ n ≤ q
 q-least n q h = omega arith
-
--- what the caller gives: bytes and numbers of their sizes
-pub record Given (S : Suite) (M : Message) (iv : List ℕ) : Type 0 where
-  pub ty-known : known (M .ty) ≡ true
-  pub id-fits : M .id < 0x100000000
-  pub seq-fits : M .seq < 0x100000000
-  pub payload-bytes : Bytes (M .payload)
-  pub iv-size : length iv ≡ 16
-  pub iv-bytes : Bytes iv
-
--- all that the sizes ask of the algorithms
-pub record Lengths (S : Suite) : Type 0 where
-  pub mac-length : (l : List ℕ) → length (S .mac l) ≡ S .m
-  pub enc-length : (iv l : List ℕ) → length l % 16 ≡ 0 → length (S .enc iv l) ≡ length l
-
-pub lengths : (S : Suite) → Laws S → Lengths S
-lengths S L = record { mac-length = L .mac-length; enc-length = L .enc-length }
 
 module _ (S : Suite) (L : Lengths S) (M : Message) (iv : List ℕ) (hi : length iv ≡ 16) where
   abbrev n : ℕ
@@ -70,7 +50,7 @@ module _ (S : Suite) (L : Lengths S) (M : Message) (iv : List ℕ) (hi : length 
       let sum : 16 + (n + leastP n + 1) ≡ 16 + n + leastP n + 1 = omega arith in
       by-cases (S .aes)
       (λ e. ap length (cond-true (S .aes) (iv ++ S .enc iv x) (M .payload) e) ∙ length-append iv (S .enc iv x)
-      ∙ ap₂ (λ (i j : ℕ). i + j) hi (L .enc-length iv x whole ∙ length-plain (M .payload) (leastP n)) ∙ sum ∙ sym (ap (λ (b : Bool). bodySize b n) e))
+      ∙ ap₂ (λ (i j : ℕ). i + j) hi (L .enc-length e iv x whole ∙ length-plain (M .payload) (leastP n)) ∙ sum ∙ sym (ap (λ (b : Bool). bodySize b n) e))
       (λ e. ap length (cond-false (S .aes) (iv ++ S .enc iv x) (M .payload) e) ∙ sym (ap (λ (b : Bool). bodySize b n) e))
 
   pub size-ours : length (ours S M iv) ≡ packetSize S (length (M .payload))
@@ -84,12 +64,12 @@ module _ (S : Suite) (L : Lengths S) (M : Message) (iv : List ℕ) (hi : length 
       let cover : length (covered S M F) ≡ k + (leastQ k + 2) = simp (length-append, length-append) (omega arith) in
       let sum : k + (leastQ k + 2) + S .m ≡ k + (leastQ k + 2 + S .m) = omega arith in
       ap length (build-auth S M F e) ∙ length-append (covered S M F) (S .mac (covered S M F))
-      ∙ ap₂ (λ (i j : ℕ). i + j) cover (L .mac-length (covered S M F))
+      ∙ ap₂ (λ (i j : ℕ). i + j) cover (L .mac-length e (covered S M F))
       ∙ sum ∙ ap (λ (b : Bool). k + trailerSize b (S .m) k) (sym e))
       (λ e. ap length (build-bare S M F e) ∙ frame ∙ (let none : k ≡ k + 0 = omega arith in none) ∙ ap (λ (b : Bool). k + trailerSize b (S .m) k) (sym e))
 
   -- what is written is a frame of the rules where the payload is not too long
-  pub ours-legal : Given S M iv → length (M .payload) ≤ 65535 → (S .aes ≡ true → length (M .payload) ≤ 65503) → Legal S M (ourFilling S iv (M .payload))
+  pub ours-legal : Given M iv → length (M .payload) ≤ 65535 → (S .aes ≡ true → length (M .payload) ≤ 65503) → Legal S M (ourFilling S iv (M .payload))
   ours-legal g h a =
       let k : ℕ = 12 + bodySize (S .aes) n in
       let count : length (F .pads) ≡ leastQ k = length-replicate {A = ℕ} (leastQ k) 0xFF in
@@ -121,24 +101,21 @@ module _ (S : Suite) (L : Lengths S) (M : Message) (iv : List ℕ) (hi : length 
       let t2 = need-inv _ _ _ _ (t1 .1) in
       (leb-true _ _ (t1 .0), λ a. leb-true _ _ (sym (ap (λ (b : Bool). leb n (longestPayload b)) a) ∙ t2 .0), sym (accept-inj _ _ (t .2)))
 
-module _ (S : Suite) (L : Laws S) (M : Message) (iv : List ℕ) (hi : length iv ≡ 16) where
-  pub ours-read : Given S M iv → length (M .payload) ≤ 65535 → (S .aes ≡ true → length (M .payload) ≤ 65503) → readOf S (ours S M iv) ≡ accept M
+module _ (S : Suite) (L : Lengths S) (M : Message) (iv : List ℕ) (g : Given M iv) (room : ℕ) where
+  ours-frame : length (M .payload) ≤ 65535 → (S .aes ≡ true → length (M .payload) ≤ 65503) → FrameOf S M (ours S M iv)
   unfolding ours
-  ours-read g h a = complete S L M (ourFilling S iv (M .payload)) (ours-legal S (lengths S L) M iv hi g h a)
+  ours-frame h a = record { filling = ourFilling S iv (M .payload); legal = ours-legal S L M iv (g .iv-size) g h a; bytes = refl }
 
-module _ (S : Suite) (L : Laws S) (M : Message) (iv : List ℕ) (g : Given S M iv) (room : ℕ) where
-  -- a packet that was written is read back as what it was made from
-  pub round-trip : (l : List ℕ) → writeOf S M iv room ≡ accept l → readOf S l ≡ accept M
+  -- a packet that was written is a frame of what it was made from
+  pub written-frame : (l : List ℕ) → writeOf S M iv room ≡ accept l → FrameOf S M l
   unfolding writeOf
-  round-trip l e =
-      let w = written-inv S (lengths S L) M iv (g .iv-size) [] room l e in
-      ap (readOf S) (w .2) ∙ ours-read S L M iv (g .iv-size) g (w .0) (w .1)
+  written-frame l e =
+      let w = written-inv S L M iv (g .iv-size) [] room l e in
+      subst (FrameOf S M) (sym (w .2)) (ours-frame (w .0) (w .1))
 
   -- and so is a datagram
-  pub round-trip-datagram : (d : List ℕ) → writeDatagramOf S M iv room ≡ accept d → readDatagramOf S d ≡ accept M
-  unfolding writeDatagramOf readDatagramOf
-  round-trip-datagram d e =
-      let w = written-inv S (lengths S L) M iv (g .iv-size) outer room d e in
-      ap (readDatagramOf S) (w .2)
-      ∙ then-accept (outerOf (outer ++ ours S M iv)) _ tt (outer-before (ours S M iv))
-      ∙ ours-read S L M iv (g .iv-size) g (w .0) (w .1)
+  pub written-datagram : (d : List ℕ) → writeDatagramOf S M iv room ≡ accept d → DatagramOf S M d
+  unfolding writeDatagramOf
+  written-datagram d e =
+      let w = written-inv S L M iv (g .iv-size) outer room d e in
+      record { packet = ours S M iv; bytes = sym (w .2); frame = ours-frame (w .0) (w .1) }

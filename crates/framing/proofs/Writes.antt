@@ -12,7 +12,7 @@ use Rattle.refusal.proofs.Order.{need-inv, then-refuse, then-accept, accept-inj
 use Rattle.octets.specs.Place.{pasted, begun}
 use Rattle.octets.specs.Promise.{PutPromise}
 use Rattle.octets.proofs.Place.{put-done, begun-first, begun-put, begun-take, begun-drop, length-pasted}
-use Rattle.framing.specs.Suite.{Suite}
+use Rattle.framing.specs.Suite.{Suite, Lengths}
 use Rattle.framing.specs.Packet.{Message, Filling, plainOf, bodyOf, headerOf, framed, covered}
 use Rattle.framing.specs.Write.{leastP, leastQ, bodySize, trailerSize, packetSize, longestPayload, roomOf, ourFilling, ourBody, ourPads, ours}
 use Rattle.framing.specs.Write.{writeAfter, wroteBy}
@@ -21,7 +21,7 @@ use Rattle.framing.specs.Told.{counted}
 use Rattle.octets.proofs.Order.{cond-true, cond-false}
 use Rattle.framing.proofs.Body.{counted-no, counted-yes}
 use Rattle.framing.proofs.Complete.{build-auth, build-bare, length-framed}
-use Rattle.framing.proofs.RoundTrip.{Lengths, size-body, size-ours}
+use Rattle.framing.proofs.RoundTrip.{size-body, size-ours}
 use Rattle.octets.proofs.Place.{to-end}
 use Rattle.framing.proofs.Fills.{pasted-next}
 

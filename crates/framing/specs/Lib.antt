@@ -6,4 +6,5 @@ pub mod Write
 pub mod Told
 pub mod Payload
 pub mod Outer
+pub mod Frames
 pub mod Marked

@@ -1,18 +1,17 @@
 -- The marked cases (docs/RULES.md, 6.11), each as a claim over every suite and all contents of the lengths named.
 use Prim.Native.Nat.{ℕ, _+_, _≤_}
-use mathlib.Core.Bool.{true, false}
-use mathlib.Core.List.{List, [], _∷_}
+use mathlib.Core.Bool.{true, false, cond}
+use mathlib.Core.List.{List, [], _∷_, _++_}
 use mathlib.Core.Path.{_≡_}
-use lib.ListN.{length, getD, take, drop}
+use lib.ListN.{length, getD, take, drop, replicate}
 use lib.Dec.{eqb}
-use Rattle.refusal.specs.Order.{refuse, accept, need, andThen}
+use Rattle.refusal.specs.Order.{Res, refuse, accept, need, andThen}
 use Rattle.running.specs.Hash.{Hash}
 use Rattle.running.specs.Mac.{hmacBlocksOf}
-use Rattle.framing.specs.Suite.{Suite, Laws}
-use Rattle.framing.specs.Packet.{Message, bodyOf}
+use Rattle.framing.specs.Suite.{Suite, Lengths}
+use Rattle.framing.specs.Packet.{Message, Filling, bodyOf, build}
 use Rattle.framing.specs.Read.{messageOf, bodyLength, headOf, coverage, codeOf, beforeTrailer, payloadIn, readOf}
-use Rattle.framing.specs.Write.{ourFilling, ours}
-use Rattle.framing.specs.Outer.{writeOf, writeDatagramOf}
+use Rattle.framing.specs.Outer.{outer, writeOf, writeDatagramOf}
 
 -- all of a list of claims
 abbrev pub Every : List (Type 0) → Type 0
@@ -24,45 +23,55 @@ pub record Packet (l : List ℕ) (M : Message) : Type 0 where
   pub reads : (S : Suite) → S .aes ≡ false → S .auth ≡ false → readOf S l ≡ accept M
   pub writes : (S : Suite) → S .aes ≡ false → S .auth ≡ false → (iv : List ℕ) → writeOf S M iv (length l) ≡ accept l
 
--- what our writer takes for a message: p, q, and the sizes of body and packet
-abbrev pub pTaken : Suite → Message → List ℕ → ℕ
-pTaken S M iv = ourFilling S iv (M .payload) .p
+-- what the rules leave open as the writer takes it, and the size of the body that this makes: p with AES, q with integrity
+pub record Taken : Type 0 where
+  pub p : ℕ
+  pub q : ℕ
+  pub body : ℕ
 
-abbrev pub qTaken : Suite → Message → List ℕ → ℕ
-qTaken S M iv = length (ourFilling S iv (M .payload) .pads)
+-- p pad bytes, and q bytes FF
+abbrev pub fillingOf : List ℕ → Taken → Filling
+fillingOf iv z = record { iv = iv; p = z .p; pads = replicate (z .q) 0xFF }
 
-abbrev pub bodyMade : Suite → Message → List ℕ → ℕ
-bodyMade S M iv = length (bodyOf S M (ourFilling S iv (M .payload)))
+-- the length of the packet
+abbrev pub sizeOf : Suite → Taken → ℕ
+sizeOf S z = 12 + z .body + cond (S .auth) (z .q + 2 + S .m) 0
 
-abbrev pub packetMade : Suite → Message → List ℕ → ℕ
-packetMade S M iv = length (ours S M iv)
+-- the writer accepts a message: the packet is what the rules build with that filling, and it is written wherever it has room; the sizes of
+-- body and packet are those named, so long as code and encryption have the lengths that they should
+pub record Writes (S : Suite) (M : Message) (iv : List ℕ) (z : Taken) : Type 0 where
+  pub body : Lengths S → length iv ≡ 16 → length (bodyOf S M (fillingOf iv z)) ≡ z .body
+  pub size : Lengths S → length iv ≡ 16 → length (build S M (fillingOf iv z)) ≡ sizeOf S z
+  pub packet : (room : ℕ) → sizeOf S z ≤ room → writeOf S M iv room ≡ accept (build S M (fillingOf iv z))
+  pub datagram : (room : ℕ) → 4 + sizeOf S z ≤ room → writeDatagramOf S M iv room ≡ accept (outer ++ build S M (fillingOf iv z))
 
--- with integrity only, a code of 12 bytes and a payload of n: q and the packet's size
+-- it refuses the message, whatever the room
+pub record Refuses (S : Suite) (M : Message) (iv : List ℕ) (n v : ℕ) : Type 0 where
+  pub packet : (room : ℕ) → writeOf S M iv room ≡ refuse n v
+  pub datagram : (room : ℕ) → writeDatagramOf S M iv room ≡ refuse n v
+
+-- the writer's answer to a message
+abbrev pub Answers : Suite → Message → List ℕ → Res Taken → Type 0
+Answers S M iv (refuse n v) = Refuses S M iv n v
+Answers S M iv (accept z) = Writes S M iv z
+
+-- its answer in a suite to any payload of n bytes, whatever they are, under any IV
+abbrev pub AnswersTo : ℕ → Suite → Res Taken → Type 0
+AnswersTo n S r = (M : Message) (iv : List ℕ) → length (M .payload) ≡ n → Answers S M iv r
+
+-- with integrity only and a code of 12 bytes: q, and the packet's size
 abbrev pub Sealed : ℕ → ℕ → ℕ → Type 0
 Sealed n q t =
-    (S : Suite) → Laws S → S .aes ≡ false → S .auth ≡ true → S .m ≡ 12
-    → (M : Message) (iv : List ℕ) → length iv ≡ 16 → length (M .payload) ≡ n → (qTaken S M iv ≡ q) × (packetMade S M iv ≡ t)
+    let z : Taken = record { p = 0; q = q; body = n } in
+    (S : Suite) → S .aes ≡ false → S .auth ≡ true → S .m ≡ 12 → AnswersTo n S (accept z) × (sizeOf S z ≡ t)
 
--- with AES, with or without integrity: p and the body's size
-abbrev pub Encrypted : ℕ → ℕ → ℕ → Type 0
-Encrypted n p b =
-    (S : Suite) → Laws S → S .aes ≡ true
-    → (M : Message) (iv : List ℕ) → length iv ≡ 16 → length (M .payload) ≡ n → (pTaken S M iv ≡ p) × (bodyMade S M iv ≡ b)
+-- with AES, with or without integrity; q is that of rule 6.4, where there is integrity
+abbrev pub Encrypted : ℕ → Res Taken → Type 0
+Encrypted n r = (S : Suite) → S .aes ≡ true → AnswersTo n S r
 
--- with both
-abbrev pub Both : ℕ → ℕ → ℕ → ℕ → ℕ → Type 0
-Both n p b q t =
-    (S : Suite) → Laws S → S .aes ≡ true → S .auth ≡ true → S .m ≡ 12
-    → (M : Message) (iv : List ℕ) → length iv ≡ 16 → length (M .payload) ≡ n
-    → (pTaken S M iv ≡ p) × (bodyMade S M iv ≡ b) × (qTaken S M iv ≡ q) × (packetMade S M iv ≡ t)
-
--- with AES a payload of n bytes is refused by the writer with the number r, whatever the room
-pub record Refused (S : Suite) (M : Message) (iv : List ℕ) (room r : ℕ) : Type 0 where
-  pub packet : writeOf S M iv room ≡ refuse r 0
-  pub datagram : writeDatagramOf S M iv room ≡ refuse r 0
-
-abbrev pub Refuses : ℕ → ℕ → Type 0
-Refuses n r = (S : Suite) → S .aes ≡ true → (M : Message) (iv : List ℕ) (room : ℕ) → length (M .payload) ≡ n → Refused S M iv room r
+-- with both and a code of 12 bytes: the packet's size too
+abbrev pub Both : ℕ → Taken → ℕ → Type 0
+Both n z t = (S : Suite) → S .aes ≡ true → S .auth ≡ true → S .m ≡ 12 → AnswersTo n S (accept z) × (sizeOf S z ≡ t)
 
 -- a packet that the checks of head, code and trailer let pass, with a message of the type ty and k bytes left
 pub record Reached (S : Suite) (l : List ℕ) (ty k : ℕ) : Type 0 where
@@ -73,7 +82,7 @@ pub record Reached (S : Suite) (l : List ℕ) (ty k : ℕ) : Type 0 where
 -- with AES a body of n bytes, its length told rightly, is refused with the number r
 abbrev pub Body : ℕ → ℕ → Type 0
 Body n r =
-    (S : Suite) → Laws S → S .aes ≡ true → (l : List ℕ) (ty : ℕ) → Reached S l ty (12 + n) → bodyLength (take (12 + n) l) ≡ n
+    (S : Suite) → S .aes ≡ true → (l : List ℕ) (ty : ℕ) → Reached S l ty (12 + n) → bodyLength (take (12 + n) l) ≡ n
     → readOf S l ≡ refuse r 0
 
 -- a packet with 20 bytes before byte q, the head, the code and the next header right
@@ -110,11 +119,11 @@ markedCases H =
     ∷ Sealed 1 1 28
     ∷ Sealed 2 0 28
     ∷ Sealed 3 3 32
-    ∷ Both 0 15 32 2 60
-    ∷ Encrypted 15 0 32
-    ∷ Encrypted 16 15 48
-    ∷ Encrypted 65503 0 65520
-    ∷ Refuses 65504 14
+    ∷ Both 0 (record { p = 15; q = 2; body = 32 }) 60
+    ∷ Encrypted 15 (accept (record { p = 0; q = 2; body = 32 }))
+    ∷ Encrypted 16 (accept (record { p = 15; q = 2; body = 48 }))
+    ∷ Encrypted 65503 (accept (record { p = 0; q = 2; body = 65520 }))
+    ∷ Encrypted 65504 (refuse 14 0)
     ∷ Body 15 1
     ∷ Body 16 10
     ∷ Body 31 12

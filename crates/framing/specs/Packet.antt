@@ -52,6 +52,10 @@ framed S M F = headerOf S M (length (bodyOf S M F)) ++ bodyOf S M F
 unfoldable pub covered : Suite → Message → Filling → List ℕ
 covered S M F = framed S M F ++ (F .pads ++ (length (F .pads) ∷ 0x07 ∷ []))
 
+-- with integrity, what follows the body: the pad, its length, 07 and the code; else nothing
+unfoldable pub trailer : Suite → Message → Filling → List ℕ
+trailer S M F = cond (S .auth) (F .pads ++ (length (F .pads) ∷ 0x07 ∷ S .mac (covered S M F))) []
+
 unfoldable pub build : Suite → Message → Filling → List ℕ
 build S M F = cond (S .auth) (covered S M F ++ S .mac (covered S M F)) (framed S M F)
 

@@ -1,7 +1,7 @@
 -- What a session's algorithms and keys fix, as the frame rules see it (docs/RULES.md, 6.3 and 6.4), and all that the
 -- theorems on frames ask of the algorithms.
 use Prim.Native.Nat.{ℕ, _%_}
-use mathlib.Core.Bool.{Bool}
+use mathlib.Core.Bool.{Bool, true}
 use mathlib.Core.List.{List}
 use mathlib.Core.Path.{_≡_}
 use lib.ListN.{length}
@@ -28,3 +28,8 @@ pub record Laws (S : Suite) : Type 0 where
   -- each undoes the other
   pub dec-enc : (iv l : List ℕ) → length iv ≡ 16 → Bytes iv → length l % 16 ≡ 0 → Bytes l → S .dec iv (S .enc iv l) ≡ l
   pub enc-dec : (iv l : List ℕ) → length iv ≡ 16 → Bytes iv → length l % 16 ≡ 0 → Bytes l → S .enc iv (S .dec iv l) ≡ l
+
+-- all that the sizes of packets ask of them: of the code where there is one, of the encryption where there is one
+pub record Lengths (S : Suite) : Type 0 where
+  pub mac-length : S .auth ≡ true → (l : List ℕ) → length (S .mac l) ≡ S .m
+  pub enc-length : S .aes ≡ true → (iv l : List ℕ) → length l % 16 ≡ 0 → length (S .enc iv l) ≡ length l

@@ -1,3 +1,5 @@
 pub mod Promised
 pub mod Parts
+pub mod Exact
+pub mod Calls
 pub mod Only

@@ -31,11 +31,11 @@ open-in-place-only κs args a b s t p q = p ∙ sym q
 
 pub read-payload-only : (κs : _) (args : _) (a b : _) (s t : _)
     → read-payload-reads.Post κs args a s → read-payload-reads.Post κs args b t → (a ≡ b) × (now (s .1 .0) ≡ now (t .1 .0))
-read-payload-only κs args a b s t p q = promise-one _ _ _ a b _ _ p q
+read-payload-only κs args a b s t p q = promise-one _ _ _ a b _ _ (p .0) (q .0)
 
 pub read-datagram-only : (κs : _) (args : _) (a b : _) (s t : _)
     → read-datagram-reads.Post κs args a s → read-datagram-reads.Post κs args b t → (a ≡ b) × (now (s .1 .0) ≡ now (t .1 .0))
-read-datagram-only κs args a b s t p q = promise-one _ _ _ a b _ _ p q
+read-datagram-only κs args a b s t p q = promise-one _ _ _ a b _ _ (p .0) (q .0)
 
 pub check-outer-only : (κs : _) (args : _) (a b : _) (s t : _) → check-outer-reads.Post κs args a s → check-outer-reads.Post κs args b t → a ≡ b
 check-outer-only κs args a b s t p q = outcome-one a b (p ∙ sym q)

@@ -16,6 +16,7 @@ pub use suite::Integrity;
 pub use suite::PayloadType;
 pub use suite::SubState;
 pub use suite::code_len;
+pub use suite::encrypts;
 pub use writer::Written;
 pub use writer::write_datagram;
 pub use writer::write_payload;

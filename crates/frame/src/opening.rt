@@ -3,6 +3,7 @@ ghost use mathlib.Core.Path.{_≡_};
 ghost use mathlib.Core.Bool.{cond};
 ghost use Prim.Native.Nat.{_+_, _-_, _%_, _≤_};
 ghost use lib.ListN.{length};
+ghost use Rattle.octets.specs.Bytes.{Bytes};
 ghost use Rattle.octets.specs.Place.{part, pasted};
 ghost use Rattle.cbc.specs.Cbc.{cbcDecrypt};
 ghost use Rattle.framing.specs.Read.{bodyLength, readOf, openable, opened, leftOf, blocksOf, accepts};
@@ -85,6 +86,7 @@ pub fn open_in_place(s: SubState, packet: &mut [u8])
 pub fn read_payload(s: SubState, packet: &mut [u8]) -> Read
     ensures { λ r. ⌜ ReadPromise (readOf (suiteOf s) (now (packet .entry)))
         (blocksOf (suiteOf s) (now (packet .entry))) (leftOf (suiteOf s) (now (packet .entry))) r (now (packet .exit)) ⌝ }
+    ensures { λ _. ⌜ Bytes (now (packet .entry)) ⌝ }
 {
     let r = reader::read_checked(s, packet);
     let a = r.answer;
@@ -112,6 +114,7 @@ pub fn check_outer(datagram: &[u8]) -> Outcome
 pub fn read_datagram(s: SubState, datagram: &mut [u8]) -> Read
     ensures { λ r. ⌜ ReadPromise (readDatagramOf (suiteOf s) (now (datagram .entry)))
         (blocksDatagram (suiteOf s) (now (datagram .entry))) (leftDatagram (suiteOf s) (now (datagram .entry))) r (now (datagram .exit)) ⌝ }
+    ensures { λ _. ⌜ Bytes (now (datagram .entry)) ⌝ }
 {
     let o = check_outer(datagram);
     match o {

@@ -124,8 +124,8 @@ pub fn put(dst: &mut [u8], at: usize, src: &[u8]) -> bool
     true
 }
 
-// Whether the two are equal. Of two of one length every byte is looked at, wherever the first difference is: a code that is
-// compared so tells nothing by the time it takes.
+// Whether the two are equal. Of two of one length every byte is looked at, wherever the first difference is. What the machine makes of
+// that in time nothing here can promise.
 pub fn same(a: &[u8], b: &[u8]) -> bool
     ensures { λ r. ⌜ r ≡ same (now (a .entry)) (now (b .entry)) ⌝ }
 {

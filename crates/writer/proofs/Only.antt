@@ -23,8 +23,8 @@ write-one R d a b x y p q = (written-one a b (p .answer ∙ sym (q .answer)), p 
 
 pub write-payload-only : (κs : _) (args : _) (a b : _) (s t : _) → write-payload-reads.Post κs args a s → write-payload-reads.Post κs args b t
     → (a ≡ b) × (now (s .1 .1 .1 .1 .1 .1 .0) ≡ now (t .1 .1 .1 .1 .1 .1 .0))
-write-payload-only κs args a b s t p q = write-one _ _ a b _ _ p q
+write-payload-only κs args a b s t p q = write-one _ _ a b _ _ (p .0) (q .0)
 
 pub write-datagram-only : (κs : _) (args : _) (a b : _) (s t : _) → write-datagram-reads.Post κs args a s → write-datagram-reads.Post κs args b t
     → (a ≡ b) × (now (s .1 .1 .1 .1 .1 .1 .0) ≡ now (t .1 .1 .1 .1 .1 .1 .0))
-write-datagram-only κs args a b s t p q = write-one _ _ a b _ _ p q
+write-datagram-only κs args a b s t p q = write-one _ _ a b _ _ (p .0) (q .0)

@@ -4,6 +4,7 @@ ghost use mathlib.Core.Bool.{true};
 ghost use mathlib.Core.List.{[], _∷_, _++_};
 ghost use Prim.Native.Nat.{_+_, _%_, _≤_, _<_};
 ghost use lib.ListN.{length, take, replicate};
+ghost use Rattle.octets.specs.Bytes.{Bytes};
 ghost use Rattle.octets.specs.Place.{pasted, begun};
 ghost use Rattle.suite.specs.Types.{encrypts, typeNumber};
 ghost use Rattle.cbc.specs.Cbc.{cbcEncrypt};
@@ -188,7 +189,8 @@ fn write_code(s: SubState, k: usize, out: &mut [u8])
 {
     let q = choose_q(k);
     put_trailer(out, k, q);
-    let n = k + q + 2;
+    let next = k + q + 1;
+    let n = next + 1;
     let c = suite::make_code(s, &out[..n]);
     let i = s.integrity;
     let m = suite::code_len(i);
@@ -233,6 +235,7 @@ pub fn write_payload(
 ) -> Written
     ensures { λ r. ⌜ WritePromise (writeOf (suiteOf s) (record { ty = typeNumber ty; id = id; seq = seq; payload = now (payload .entry) }) iv
         (length (now (out .entry)))) (now (out .entry)) r (now (out .exit)) ⌝ }
+    ensures { λ _. ⌜ Bytes (now (payload .entry)) ⌝ }
 {
     let t = check_room(s, payload.len(), 0, out.len());
     match t {
@@ -256,6 +259,7 @@ pub fn write_datagram(
 ) -> Written
     ensures { λ r. ⌜ WritePromise (writeDatagramOf (suiteOf s) (record { ty = typeNumber ty; id = id; seq = seq; payload = now (payload .entry) }) iv
         (length (now (out .entry)))) (now (out .entry)) r (now (out .exit)) ⌝ }
+    ensures { λ _. ⌜ Bytes (now (payload .entry)) ⌝ }
 {
     let t = check_room(s, payload.len(), 4, out.len());
     match t {

@@ -1,8 +1,10 @@
 -- `write_code` keeps its promise: the code covers what was written so far.
+use Prim.Native.Nat.{ℕ, _+_}
 use native.Mathlib.Omega.{arith}
-use mathlib.Core.Path.{_≡_, sym}
-use lib.ListN.{length}
+use mathlib.Core.Path.{_≡_, sym, _∙_, ap, subst}
+use lib.ListN.{length, take}
 use lib.Seq.{length-take-le}
+use Rattle.octets.specs.Promise.{PutPromise}
 use Rattle.framing.proofs.Writes.{code-written}
 use Rattle.suite.specs.Session.{suiteOf}
 use Rattle.suite.specs.Code.{longestCode}
@@ -43,8 +45,13 @@ returns c =
     let q = c13 .choose-q .ensures in
     let m = c6 .code-len .ensures in
     let made = code-right _ _ _ (c7 .make-code .ensures) (omega (arith, slice-aggregate-make-code (c7 .before), q, c15 .pre .0)) in
+    let put = c .before .before .put in
+    let code = take (c6 .code-len .result) (c7 .make-code .result .code) in
+    let n : a .k + c13 .choose-q .result + 1 + 1 ≡ a .k + c13 .choose-q .result + 2 = omega arith in
     code-written (suiteOf (a .s)) (a .out .now) _ _ _ (a .k) _ _ _ q m (omega (arith, q, m, c15 .pre .1))
-    (array-share-prefix-code (c .before .before .before .before)) (c11 .put-trailer .ensures) made (c .before .before .put .ensures)
+    (array-share-prefix-code (c .before .before .before .before)) (c11 .put-trailer .ensures)
+    (made ∙ ap (λ (j : ℕ). suiteOf (a .s) .mac (take j (c11 .put-trailer .last .0))) n)
+    (subst (λ (j : ℕ). PutPromise (c11 .put-trailer .last .0) j code (put .result) (put .last .0)) n (put .ensures))
 
 pub write-code-spec : {M : Type 1} → statement M
 write-code-spec =
@@ -52,6 +59,7 @@ write-code-spec =
     (tie.spec
     (λ c κs. search needs)
     (λ c κs. search needs)
+    (λ c. search needs)
     (λ c. search needs)
     (λ c. search needs)
     (λ c. search needs)

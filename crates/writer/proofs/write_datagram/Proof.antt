@@ -44,8 +44,10 @@ write-packet-requires c κs =
 returns : tie.Need-returns
 unfolding writeDatagramOf
 returns c =
-    writes _ _ _ _
-    (write-no _ _ _ outer _ _ (c .before .before .before .check-room .ensures) _ _ (ap stageTold (c .before .t .given .1)))
+    let c3 = c .before .before .before in (
+      writes _ _ _ _ (write-no _ _ _ outer _ _ (c3 .check-room .ensures) _ _ (ap stageTold (c .before .t .given .1))),
+      λ i. c3 .before .before .shared-slice-known .given i .fits,
+    )
 
 returns-2 : tie.Need-returns-2
 unfolding writeDatagramOf
@@ -56,11 +58,13 @@ returns-2 c =
     let c15 = c12 .before .before .before in
     let a = c15 .args in
     let e = room-inv (suiteOf (a .s)) 4 (length (a .payload .now)) (length (a .out .now)) _
-    (sym (c12 .check-room .ensures) ∙ ap stageTold (c10 .t2 .given .1)) in
-    writes _ _ _ _
-    (write-yes (suiteOf (a .s)) _ (a .iv) outer _ _ (c12 .check-room .ensures) (suite-lengths (a .s)) (iv-size c15) _ _
-    (ap stageTold (c10 .t2 .given .1))
-    (datagram-written (a .out .now) _ _ _ _ (omega (arith, e .1)) (c6 .put .ensures) (c .before .before .write-packet .ensures)))
+    (sym (c12 .check-room .ensures) ∙ ap stageTold (c10 .t2 .given .1)) in (
+      writes _ _ _ _
+          (write-yes (suiteOf (a .s)) _ (a .iv) outer _ _ (c12 .check-room .ensures) (suite-lengths (a .s)) (iv-size c15) _ _
+          (ap stageTold (c10 .t2 .given .1))
+          (datagram-written (a .out .now) _ _ _ _ (omega (arith, e .1)) (c6 .put .ensures) (c .before .before .write-packet .ensures))),
+      λ i. c12 .before .before .shared-slice-known .given i .fits,
+    )
 
 pub write-datagram-spec : {M : Type 1} → statement M
 write-datagram-spec =

@@ -28,8 +28,10 @@ write-packet-requires c κs =
 returns : tie.Need-returns
 unfolding writeOf
 returns c =
-    writes _ _ _ _
-    (write-no _ _ _ [] _ _ (c .before .before .before .check-room .ensures) _ _ (ap stageTold (c .before .t .given .1)))
+    let c3 = c .before .before .before in (
+      writes _ _ _ _ (write-no _ _ _ [] _ _ (c3 .check-room .ensures) _ _ (ap stageTold (c .before .t .given .1))),
+      λ i. c3 .before .before .shared-slice-known .given i .fits,
+    )
 
 returns-2 : tie.Need-returns-2
 unfolding writeOf
@@ -37,10 +39,12 @@ returns-2 c =
     let c5 = c .before .before .before .before .before in
     let c7 = c5 .before .before in
     let c10 = c7 .before .before .before in
-    let a = c10 .args in
-    writes _ _ _ _
-    (write-yes (suiteOf (a .s)) _ (a .iv) [] _ _ (c7 .check-room .ensures) (suite-lengths (a .s)) (iv-size c10) _ _
-    (ap stageTold (c5 .t2 .given .1)) (c .before .before .write-packet .ensures))
+    let a = c10 .args in (
+      writes _ _ _ _
+          (write-yes (suiteOf (a .s)) _ (a .iv) [] _ _ (c7 .check-room .ensures) (suite-lengths (a .s)) (iv-size c10) _ _
+          (ap stageTold (c5 .t2 .given .1)) (c .before .before .write-packet .ensures)),
+      λ i. c7 .before .before .shared-slice-known .given i .fits,
+    )
 
 pub write-payload-spec : {M : Type 1} → statement M
 write-payload-spec =

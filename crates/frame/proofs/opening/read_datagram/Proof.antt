@@ -18,16 +18,22 @@ part-read-payload-start : tie.Need-part-read-payload-start
 part-read-payload-start c = sub-read-payload c
 
 returns : tie.Need-returns
-returns c = reads _ _ _ _ _ (outer-no _ _ _ (c .before .before .before .check-outer .ensures) _ _ (ap told (c .before .o .given .1)))
+returns c =
+    let c3 = c .before .before .before in (
+      reads _ _ _ _ _ (outer-no _ _ _ (c3 .check-outer .ensures) _ _ (ap told (c .before .o .given .1))),
+      λ i. c3 .before .before .slice-known .given i .fits,
+    )
 
 returns-2 : tie.Need-returns-2
 returns-2 c =
     let c4 = c .before .before .before .before in
     let c6 = c4 .before .before in
-    let r = c .before .before .read-payload .ensures in
-    reads _ _ _ _ _
-    (outer-on _ _ _ (c6 .check-outer .ensures) _ _ _ _ _ (ap told (c4 .enum-told .given .1)) refl
-    (r .tells .answer) (r .tells .count) (r .buffer))
+    let r = c .before .before .read-payload .ensures .0 in (
+      reads _ _ _ _ _
+          (outer-on _ _ _ (c6 .check-outer .ensures) _ _ _ _ _ (ap told (c4 .enum-told .given .1)) refl
+          (r .tells .answer) (r .tells .count) (r .buffer)),
+      λ i. c6 .before .before .slice-known .given i .fits,
+    )
 
 pub read-datagram-spec : {M : Type 1} → statement M
 read-datagram-spec =

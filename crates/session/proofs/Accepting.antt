@@ -1,24 +1,26 @@
 -- What is enough for a step to accept: its tests, as equations.
 use Prim.Native.Nat.{ℕ, _≤_}
-use mathlib.Core.Bool.{Bool, true, false, _&&_, _||_, or-true}
+use mathlib.Core.Bool.{Bool, true, false, not, _&&_, _||_, or-true}
 use mathlib.Core.List.{List, []}
 use mathlib.Core.Logic.{_⊎_, ⊎-elim}
 use mathlib.Core.Path.{_≡_, refl, sym, _∙_, ap, ap₂}
 use lib.Dec.{eqb}
-use lib.ListN.{length, drop}
-use borrow.Author.Tests.{eq-eqb, le-leb}
+use lib.ListN.{length, take, drop}
+use borrow.Author.Tests.{eq-eqb, ne-eqb, le-leb}
 use Rattle.refusal.specs.Order.{Res, refuse, accept, need, andThen}
 use Rattle.refusal.proofs.Order.{pass, need-no, then-refuse, then-accept}
 use Rattle.octets.specs.Equal.{same}
 use Rattle.octets.proofs.Equal.{same-self, same-true}
+use Rattle.messages.specs.Name.{allowed, usernameOf, stored}
 use Rattle.messages.specs.OpenSession.{Response, openResponse}
 use Rattle.messages.specs.Rakp.{message2, message4}
 use Rattle.messages.specs.declared.«rakp_2».RakpMessage2.{RakpMessage2}
 use Rattle.messages.specs.declared.«rakp_4».RakpMessage4.{RakpMessage4}
-use Rattle.session.specs.Constants.{openTag, tag1, tag3, kgSize, legalKg, codeSize, oneSize, threeSize}
+use Rattle.session.specs.Constants.{openTag, tag1, tag3, kgSize, legalKg, codeSize, requestSize, oneSize, threeSize}
 use Rattle.session.specs.Record.{stepNumber, inStep, opened}
-use Rattle.session.specs.Steps.{readyOpen, carried, heardOpen, madeOpen, openOf}
+use Rattle.session.specs.Steps.{levelAllowed, readyBegin, madeBegin, beginOf, readyOpen, carried, heardOpen, madeOpen, openOf}
 use Rattle.session.specs.Steps.{readyTwo, heardTwo, codeTwo, madeTwo, provedTwo, twoOf, readyFour, valueFour, heardFour, fourOf}
+use Rattle.session.specs.declared.Asked.{Asked}
 use Rattle.session.specs.declared.Record.{Record}
 
 pub is-in-step : (s : Record) (k : ℕ) → stepNumber (s .step) ≡ k → s .begun .username .len ≤ 16 → inStep s k ≡ true
@@ -27,6 +29,15 @@ is-in-step s k e h = ap₂ _&&_ (eq-eqb _ k e) (le-leb _ 16 h)
 
 same-of : (l m : List ℕ) → l ≡ m → same l m ≡ true
 same-of l m e = ap (same l) (sym e) ∙ same-self l
+
+-- Begin
+pub begin-accepts : (asked : Asked) (name : List ℕ) (room : ℕ) → (asked .console ≡ 0 → ⊥) → levelAllowed (asked .level) ≡ true
+    → allowed (take 16 name) ≡ true → requestSize ≤ room → beginOf asked name room ≡ accept (madeBegin asked (stored (take 16 name)))
+unfolding beginOf readyBegin usernameOf
+begin-accepts asked name room d l a b =
+    then-accept _ _ tt (pass _ _ _ _ (ap not (ne-eqb _ 0 d)) (pass _ _ _ _ l refl))
+    ∙ then-accept _ _ (take 16 name) (pass _ _ _ _ a refl)
+    ∙ pass _ _ _ _ (le-leb _ _ b) refl
 
 -- the open response
 pub are-carried : (r : Response) → r .authentication ≡ 1 → r .integrity ≤ 1 → r .confidentiality ≤ 1 → carried r ≡ true

@@ -1,7 +1,7 @@
 -- Another value in message 4 closes the record, whichever test of the message fails, and never opens a session.
 use Prim.Native.Nat.{ℕ}
 use mathlib.Core.Bool.{Bool, true, cond}
-use mathlib.Core.List.{List, [], _++_}
+use mathlib.Core.List.{List, []}
 use mathlib.Core.Path.{_≡_, refl, _∙_, ap}
 use lib.ListN.{drop}
 use native.Mathlib.Omega.{arith}
@@ -10,8 +10,6 @@ use Rattle.refusal.proofs.Order.{pass, then-accept}
 use Rattle.session.specs.Record.{stepNumber, inStep, closed, opened}
 use Rattle.session.specs.Steps.{Made, readyFour, heardFour, valueFour, fourOf}
 use Rattle.session.specs.Promise.{recordAfter}
-use Rattle.session.specs.Exchange.{Exchange}
-use Rattle.session.specs.System.{System, headTo, valueIn}
 use Rattle.session.specs.declared.Record.{Record}
 use Rattle.session.proofs.Stages.{Only, Shuts, only-accept, only-then}
 use Rattle.session.proofs.Refusals.{heard-four-shuts}
@@ -39,9 +37,3 @@ module _ (s : Record) (m : List ℕ) (d : drop 8 m ≡ valueFour s → ⊥) wher
       let f : fourOf s m ≡ andThen (heardFour s m) (λ _. accept (record { next = opened s; bytes = [] })) = then-accept _ _ tt e in
       ap (recordAfter s) f
       ∙ shut-record s _ (only-then Shuts _ _ (heard-four-shuts s m) (λ _. only-accept Shuts _)) (λ M g. d (four-tells s m M (f ∙ g) .1))
-
--- in an exchange that went well up to message 4
-pub exchange-closes : (most : ℕ) (y : System) (rm : List ℕ) (room₁ room₃ : ℕ) (began : Made) (E : Exchange most y rm room₁ room₃ began)
-    (x : List ℕ) → (x ≡ valueIn y (E .answered .bytes) → ⊥)
-    → recordAfter (E .keyed .next) (fourOf (E .keyed .next) (headTo (began .bytes) (E .keyed .bytes) ++ x)) ≡ closed
-exchange-closes most y rm room₁ room₃ began E x d = ap (recordAfter (E .keyed .next)) (E .refuses-other x d)

@@ -1,33 +1,35 @@
--- A whole exchange: a console that has begun, and a system that follows the definitions with the same password and the same Kg,
--- take each other's messages and end with the same keys; with any other value in message 4 the session does not open.
+-- A whole exchange over the definitions of the steps: a console that has begun, and a system that follows the definitions with the
+-- same password and the same Kg, take each other's messages and end with the same keys. proofs/Calls carries it to the calls.
 use Prim.Native.Nat.{ℕ, _+_, _^_, _≤_, _<_}
 use native.Mathlib.Omega.{arith}
+use mathlib.Core.Bool.{true}
 use mathlib.Core.List.{List, [], _++_}
 use mathlib.Core.Path.{_≡_, refl, sym, _∙_, ap, ap₂}
-use lib.ListN.{length, getD, take, drop, length-take}
+use lib.ListN.{length, getD, drop}
+use lib.Seq.{take-at}
 use Rattle.refusal.specs.Order.{refuse, accept}
 use Rattle.sha1.specs.Hash.{hmacSha1}
 use Rattle.sha1.proofs.Laws.{mac-length}
-use Rattle.keys.specs.Codes.{code2, code3}
-use Rattle.keys.specs.Keys.{keysOf, aesKeyOf}
-use Rattle.messages.specs.Name.{stored}
+use Rattle.keys.specs.Codes.{roleName, code2, code3}
+use Rattle.keys.specs.Keys.{keysOf}
+use Rattle.messages.specs.Auth.{isLevel}
+use Rattle.messages.specs.Name.{allowed, nameOf, stored}
 use Rattle.messages.specs.OpenSession.{Response, openResponse}
 use Rattle.messages.specs.Rakp.{message1, message2, message4}
 use Rattle.messages.specs.declared.«rakp_1».RakpMessage1.{RakpMessage1}
 use Rattle.messages.specs.declared.«rakp_2».RakpMessage2.{RakpMessage2}
-use Rattle.session.specs.Constants.{tag1, tag3, codeSize, oneSize, threeSize}
+use Rattle.session.specs.Constants.{openTag, tag1, tag3, role, codeSize, oneSize, threeSize}
 use Rattle.session.specs.Record.{stepNumber, begunOf, begunWith, agreedOf, answered, keyed, opened}
-use Rattle.session.specs.Steps.{Made, requestOf, madeBegin, beginOf, oneTo, madeOpen, openOf, who, codeTwo}
+use Rattle.session.specs.Steps.{Made, levelAllowed, requestOf, madeBegin, oneTo, madeOpen, openOf, who, codeTwo}
 use Rattle.session.specs.Steps.{sikTwo, codeThree, madeTwo, twoOf, valueFour, fourOf}
 use Rattle.session.specs.System.{System, Regular, sidmIn, rmIn, whoIn, headTo, response, codeIn}
-use Rattle.session.specs.System.{second, sikIn, keysIn, valueIn, fourth, TakesThree}
-use Rattle.session.specs.Exchange.{Exchange}
+use Rattle.session.specs.System.{second, sikIn, keysIn, agreedIn, valueIn, fourth, TakesOne, TakesThree}
+use Rattle.session.specs.Exchange.{Hears, Opened}
 use Rattle.session.specs.declared.Asked.{Asked}
 use Rattle.session.specs.declared.Record.{Record}
-use Rattle.session.proofs.Accepted.{begin-tells}
 use Rattle.session.proofs.Accepting.{is-in-step, are-carried, open-accepts, two-accepts, four-accepts, four-refuses}
 use Rattle.session.proofs.Heard.{responseBytes, responseSays, response-heard, twoBytes, twoSays, two-code, two-heard, fourBytes, fourSays, four-heard}
-use Rattle.session.proofs.Heard.{request-tag, request-sidm, one-tag, one-system, one-rm, one-who, three-tag, three-status, three-system, three-code}
+use Rattle.session.proofs.Heard.{request-tag, request-sidm, request-level, request-taken, one-tag, one-rm, one-who, one-taken, three-tag, three-taken}
 
 -- messages 2 to 4, from a console that has taken the response: its record s, and what the system has heard by then
 module _ (y : System) (r : Regular y) (s : Record) (request one : List ℕ) (a : s .begun .console < 2 ^ 32) (b : s .begun .console ≡ 0 → ⊥)
@@ -67,11 +69,9 @@ module _ (y : System) (r : Regular y) (s : Record) (request one : List ℕ) (a :
   unfolding codeThree
   three-agrees = rw (i, v)
 
-  three-taken : TakesThree y request one (madeTwo s (y .kg) (y .password) said .bytes)
-  unfolding madeTwo
-  three-taken =
-      let h : s .system < 2 ^ 32 = rw j (r .small) in
-      record { status = three-status _ _; system = three-system _ _ h ∙ j; code = three-code _ _ ∙ three-agrees }
+  takes-three : TakesThree y request one (madeTwo s (y .kg) (y .password) said .bytes)
+  unfolding madeTwo codeThree
+  takes-three = three-taken _ _ y request one j (rw j (r .small)) (mac-length _ _) three-agrees
 
   -- the console's record at message 4
   abbrev checking : Record
@@ -99,15 +99,29 @@ module _ (y : System) (r : Regular y) (s : Record) (request one : List ℕ) (a :
         four-refuses checking _ (fourSays tag3 (s .begun .console) x) (is-in-step checking 3 refl w) four-read refl refl
         (λ e. d (e ∙ value-agrees))
 
--- the whole, from what Begin made
+-- what the steps make of one another's messages, from what Begin made
+pub record StepsAgree (most : ℕ) (y : System) (asked : Asked) (n rm : List ℕ) (room₁ room₃ : ℕ) (began : Made) : Type 0 where
+  pub answered : Made
+  pub keyed : Made
+  pub hears : Hears y asked n rm (began .bytes) (answered .bytes) (keyed .bytes)
+  pub accepts-response : openOf (began .next) (response y (began .bytes)) rm room₁ ≡ accept answered
+  pub accepts-two : twoOf most (answered .next) (y .kg) (y .password) (second y (began .bytes) (answered .bytes)) room₃ ≡ accept keyed
+  pub accepts-four : fourOf (keyed .next) (fourth y (began .bytes) (answered .bytes) (keyed .bytes))
+      ≡ accept (record { next = opened (keyed .next); bytes = [] })
+  pub refuses-other : (x : List ℕ) → (x ≡ valueIn y (answered .bytes) → ⊥)
+      → fourOf (keyed .next) (headTo (began .bytes) (keyed .bytes) ++ x) ≡ refuse 32 0
+  pub named : keyed .next .begun .username .len ≤ 16
+  pub opens : Opened y (answered .bytes) (opened (keyed .next))
+
+-- the whole: n is the name that counts
 module _ (most : ℕ) (y : System) (r : Regular y) (asked : Asked) (n rm : List ℕ) (room₁ room₃ : ℕ)
-    (a : asked .console < 2 ^ 32) (b : asked .console ≡ 0 → ⊥) (l : length n ≤ 16) (k : length rm ≡ 16) (p : length (y .password) ≤ most)
-    (h₁ : oneSize (length n) ≤ room₁) (h₃ : threeSize ≤ room₃) where
+    (a : asked .console < 2 ^ 32) (b : asked .console ≡ 0 → ⊥) (d : levelAllowed (asked .level) ≡ true) (l : length n ≤ 16)
+    (c : allowed n ≡ true) (k : length rm ≡ 16) (p : length (y .password) ≤ most) (h₁ : oneSize (length n) ≤ room₁) (h₃ : threeSize ≤ room₃) where
   abbrev request : List ℕ
   request = requestOf asked
 
   abbrev says : Response
-  says = responseSays 0 (y .level) (asked .console) (y .id) (y .integrity) (y .confidentiality)
+  says = responseSays openTag (y .level) (asked .console) (y .id) (y .integrity) (y .confidentiality)
 
   abbrev waiting : Record
   waiting = answered (begunWith (begunOf asked (stored n))) says rm
@@ -115,7 +129,7 @@ module _ (most : ℕ) (y : System) (r : Regular y) (asked : Asked) (n rm : List 
   abbrev first : RakpMessage1
   first = oneTo (y .id) (begunWith (begunOf asked (stored n))) rm
 
-  response-is : response y request ≡ responseBytes 0 (y .level) (asked .console) (y .id) (y .integrity) (y .confidentiality)
+  response-is : response y request ≡ responseBytes openTag (y .level) (asked .console) (y .id) (y .integrity) (y .confidentiality)
   unfolding response
   response-is =
       ap₂ (λ (t x : ℕ). responseBytes t (y .level) x (y .id) (y .integrity) (y .confidentiality)) (request-tag asked) (request-sidm asked a)
@@ -126,7 +140,7 @@ module _ (most : ℕ) (y : System) (r : Regular y) (asked : Asked) (n rm : List 
   open-taken =
       open-accepts (begunWith (begunOf asked (stored n))) (response y request) rm room₁ says (is-in-step (begunWith (begunOf asked (stored n))) 1 refl l) h₁
       (ap openResponse response-is
-      ∙ response-heard 0 (y .level) (asked .console) (y .id) (y .integrity) (y .confidentiality)
+      ∙ response-heard openTag (y .level) (asked .console) (y .id) (y .integrity) (y .confidentiality)
       a b (r .small) (r .id) (r .level) (r .integrity) (r .confidentiality))
       refl refl (are-carried says refl (r .integrity) (r .confidentiality))
 
@@ -137,8 +151,16 @@ module _ (most : ℕ) (y : System) (r : Regular y) (asked : Asked) (n rm : List 
   abbrev proving : Made
   proving = madeTwo waiting (y .kg) (y .password) (twoSays tag1 (asked .console) (y .random) (y .guid))
 
-  exchanged : Exchange most y rm room₁ room₃ (madeBegin asked (stored n))
-  unfolding madeBegin madeOpen madeTwo answered begunWith begunOf agreedOf keyed opened keysOf keysIn fourth stored
+  name-is : nameOf (stored n) ≡ n
+  unfolding nameOf stored
+  name-is = take-at n _ (length n) refl
+
+  takes-one : TakesOne y (message1 first)
+  unfolding begunWith begunOf isLevel
+  takes-one = one-taken first k y refl (r .small) refl (omega arith) (rw name-is l) (rw name-is c)
+
+  pub exchanged : StepsAgree most y asked n rm room₁ room₃ (madeBegin asked (stored n))
+  unfolding madeBegin madeOpen madeTwo answered begunWith begunOf agreedOf agreedIn keyed opened keysIn fourth stored
   exchanged =
       let i = request-sidm asked a in
       let g = one-tag first k in
@@ -149,26 +171,19 @@ module _ (most : ℕ) (y : System) (r : Regular y) (asked : Asked) (n rm : List 
       record {
         answered = madeOpen (begunWith (begunOf asked (stored n))) rm says;
         keyed = proving;
-        opened = record { next = opened (proving .next); bytes = [] };
+        hears = record {
+          takes-request = request-taken asked a b d;
+          level = request-level asked;
+          console = i;
+          takes-one = takes-one;
+          random = u;
+          who = one-who first k ∙ ap (roleName role) name-is;
+          takes-three = takes-three y r waiting request one a b l i refl g u v;
+        };
         accepts-response = open-taken;
-        takes-one = record { system = one-system first k (r .small) };
         accepts-two = two-taken y r waiting request one a b l i refl g u v most room₃ refl p h₃;
-        takes-three = three-taken y r waiting request one a b l i refl g u v;
         accepts-four = four-taken y r waiting request one a b l i refl g u v (proving .bytes) (three-tag _ _) (valueIn y one) refl;
         refuses-other = (λ x. four-refused y r waiting request one a b l i refl g u v (proving .bytes) (three-tag _ _) x);
-        opens = refl;
-        system = refl;
-        integrity = refl;
-        confidentiality = refl;
-        k1 = ap (λ (z : List ℕ). keysOf z .k1) e;
-        aes-key = ap (λ (z : List ℕ). aesKeyOf (keysOf z)) e;
+        named = l;
+        opens = record { step = refl; system = refl; agreed = refl; keys = ap keysOf e };
       }
-
--- a console that began with an id and a name, and lends RM and rooms enough
-pub exchange : (most : ℕ) (y : System) (asked : Asked) (name rm : List ℕ) (room room₁ room₃ : ℕ) (began : Made)
-    → beginOf asked name room ≡ accept began → asked .console < 2 ^ 32 → Regular y → length (y .password) ≤ most → length rm ≡ 16
-    → oneSize (length (take 16 name)) ≤ room₁ → threeSize ≤ room₃ → Exchange most y rm room₁ room₃ began
-exchange most y asked name rm room room₁ room₃ began e a r p k h₁ h₃ =
-    let t = begin-tells asked name room began e in
-    let l : length (take 16 name) ≤ 16 = simp length-take (omega arith) in
-    rw (t .2) (exchanged most y r asked (take 16 name) rm room₁ room₃ a (t .0) l k p h₁ h₃)

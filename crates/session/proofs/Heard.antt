@@ -1,24 +1,28 @@
 -- What each side reads in the messages of the other.
-use Prim.Native.Nat.{ℕ, _+_, _-_, _^_, _≤_, _<_}
+use Prim.Native.Nat.{ℕ, _+_, _-_, _%_, _^_, _≤_, _<_}
 use native.Mathlib.Omega.{arith}
-use mathlib.Core.Bool.{true}
+use mathlib.Core.Bool.{true, and-eq-true-iff}
 use mathlib.Core.List.{List, [], _∷_, _++_, append-assoc}
 use mathlib.Core.Path.{_≡_, refl, sym, _∙_, ap, ap₂}
 use lib.Dec.{leb}
-use lib.ListN.{length, getD, take, drop, length-append}
+use lib.ListN.{length, getD, take, drop, replicate, length-append}
 use lib.Seq.{take-at, drop-at, take-length, getD-at, getD-append-add}
-use borrow.Author.Tests.{eq-eqb, le-leb}
+use borrow.Author.Tests.{eq-eqb, le-leb, leb-true}
 use Rattle.refusal.specs.Order.{accept}
 use Rattle.refusal.proofs.Order.{pass, then-accept}
 use Rattle.octets.specs.Number.{le, unle}
 use Rattle.octets.specs.Place.{part}
 use Rattle.octets.proofs.Number.{unle-le}
-use Rattle.keys.specs.Codes.{roleName}
+use Rattle.octets.proofs.Place.{part-behind}
+use Rattle.sha1.specs.Hash.{hmacSha1}
+use Rattle.keys.specs.Codes.{roleName, code3}
 use Rattle.messages.specs.Auth.{isLevel}
 use Rattle.messages.specs.Block.{lastCode, known, blockOf, ofType, blockBytes}
-use Rattle.messages.specs.Name.{nameOf}
-use Rattle.messages.specs.OpenSession.{Response, openRequest, openNumbers, openResponse}
+use Rattle.messages.specs.Name.{allowed, nameOf}
+use Rattle.messages.specs.OpenSession.{Response, levelByte, openRequest, openNumbers, openResponse}
 use Rattle.messages.specs.Rakp.{fields2, message2, message1, message3, fields4, message4}
+use Rattle.messages.specs.declared.«open_session».RequestedPrivilege.{RequestedPrivilege}
+use Rattle.messages.specs.declared.«open_session».RequestedPrivilege.the-variants.{None, Level}
 use Rattle.messages.specs.declared.«rakp_1».RakpMessage1.{RakpMessage1}
 use Rattle.messages.specs.declared.«rakp_2».RakpMessage2.{RakpMessage2}
 use Rattle.messages.specs.declared.«rakp_3».RakpMessage3.{RakpMessage3}
@@ -26,8 +30,8 @@ use Rattle.messages.specs.declared.«rakp_4».RakpMessage4.{RakpMessage4}
 use Rattle.messages.proofs.Opening.{fields-all, open-passed}
 use Rattle.messages.proofs.Tests.{checked-passed}
 use Rattle.session.specs.Constants.{openTag, codeSize}
-use Rattle.session.specs.Steps.{requestOf}
-use Rattle.session.specs.System.{sidmIn, rmIn, whoIn}
+use Rattle.session.specs.Steps.{levelAllowed, requestOf}
+use Rattle.session.specs.System.{System, levelIn, sidmIn, rmIn, roleIn, nameSizeIn, nameIn, whoIn, TakesRequest, TakesOne, TakesThree}
 use Rattle.session.specs.declared.Asked.{Asked}
 
 -- an id comes back from its four bytes
@@ -122,7 +126,7 @@ four-heard tag own value a b =
     then-accept _ _ tt (sym (checked-passed 1 _ 8 21 0 m (omega arith) refl (omega arith) (λ z. b (sym x ∙ z))))
     ∙ rw x
 
--- what the system reads: the request
+-- what the system reads: the request, which it takes
 pub request-tag : (asked : Asked) → getD (requestOf asked) 0 0 ≡ openTag
 unfolding requestOf openRequest
 request-tag asked = refl
@@ -130,6 +134,29 @@ request-tag asked = refl
 pub request-sidm : (asked : Asked) → asked .console < 2 ^ 32 → sidmIn (requestOf asked) ≡ asked .console
 unfolding sidmIn requestOf openRequest
 request-sidm asked h = id-back (asked .console) h
+
+pub request-level : (asked : Asked) → levelIn (requestOf asked) ≡ levelByte (asked .level)
+unfolding requestOf openRequest
+request-level asked = refl
+
+level-short : (l : RequestedPrivilege) → levelAllowed l ≡ true → levelByte l ≤ 5
+unfolding isLevel
+level-short None h = omega arith
+level-short (Level b) h = leb-true b 5 (and-eq-true-iff (leb 1 b) (leb b 5) .0 h .1)
+
+pub request-taken : (asked : Asked) → asked .console < 2 ^ 32 → (asked .console ≡ 0 → ⊥) → levelAllowed (asked .level) ≡ true
+    → TakesRequest (requestOf asked)
+unfolding requestOf openRequest
+request-taken asked a b l =
+    record {
+      size = refl;
+      level = level-short (asked .level) l;
+      reserved = refl;
+      console = (λ z. b (sym (request-sidm asked a) ∙ z));
+      authentication = refl;
+      integrity = refl;
+      confidentiality = refl;
+    }
 
 -- message 1
 module _ (s : RakpMessage1) (e : length (s .random) ≡ 16) where
@@ -144,7 +171,11 @@ module _ (s : RakpMessage1) (e : length (s .random) ≡ 16) where
   unfolding message1
   one-tag = refl
 
-  pub one-system : s .system < 2 ^ 32 → unle (part (message1 s) 4 4) ≡ s .system
+  one-reserved : part (message1 s) 1 3 ≡ replicate 3 0
+  unfolding message1
+  one-reserved = refl
+
+  one-system : s .system < 2 ^ 32 → unle (part (message1 s) 4 4) ≡ s .system
   unfolding message1
   one-system h = id-back (s .system) h
 
@@ -152,11 +183,15 @@ module _ (s : RakpMessage1) (e : length (s .random) ≡ 16) where
   unfolding rmIn message1
   one-rm = ap (take 16) from-rm ∙ take-at (s .random) _ 16 e
 
-  one-role : getD (message1 s) 24 0 ≡ s .role
+  one-role : roleIn (message1 s) ≡ s .role
   unfolding message1
   one-role = ap (λ (l : List ℕ). getD l 16 0) from-rm ∙ getD-at (s .random) (s .role) _ 0 16 e
 
-  one-count : getD (message1 s) 27 0 ≡ length (nameOf (s .username))
+  one-unread : part (message1 s) 25 2 ≡ replicate 2 0
+  unfolding message1
+  one-unread = ap (λ (l : List ℕ). part l 17 2) from-rm ∙ part-behind (s .random) (between ++ nameOf (s .username)) 16 1 2 e
+
+  one-count : nameSizeIn (message1 s) ≡ length (nameOf (s .username))
   unfolding message1
   one-count =
       let n : length (s .random) + 3 ≡ 19 = omega arith in
@@ -164,15 +199,37 @@ module _ (s : RakpMessage1) (e : length (s .random) ≡ 16) where
       ∙ ap (λ (k : ℕ). getD (s .random ++ (between ++ nameOf (s .username))) k 0) (sym n)
       ∙ getD-append-add (s .random) (between ++ nameOf (s .username)) 3 0
 
-  one-name : drop 28 (message1 s) ≡ nameOf (s .username)
+  one-rest : drop 28 (message1 s) ≡ nameOf (s .username)
   unfolding message1
-  one-name =
+  one-rest =
       let n : length (s .random ++ between) ≡ 20 = simp length-append (omega arith) in
       drop-at (s .random ++ between) (nameOf (s .username)) 20 n
 
+  one-name : nameIn (message1 s) ≡ nameOf (s .username)
+  one-name = rw (one-count, one-rest, take-length (nameOf (s .username)))
+
+  one-size : length (message1 s) ≡ 28 + length (nameOf (s .username))
+  unfolding message1
+  one-size = simp length-append (omega arith)
+
   pub one-who : whoIn (message1 s) ≡ roleName (s .role) (nameOf (s .username))
   unfolding whoIn
-  one-who = rw (one-role, one-count, one-name, take-length (nameOf (s .username)))
+  one-who = ap₂ roleName one-role one-name
+
+  -- which it takes, where it has the id s .system
+  pub one-taken : (y : System) → y .id ≡ s .system → s .system < 2 ^ 32 → isLevel (s .role % 16) ≡ true → s .role < 32
+      → length (nameOf (s .username)) ≤ 16 → allowed (nameOf (s .username)) ≡ true → TakesOne y (message1 s)
+  one-taken y i h l b n w =
+      record {
+        size = one-size ∙ ap (λ (k : ℕ). 28 + k) (sym one-count);
+        reserved = one-reserved;
+        system = one-system h ∙ sym i;
+        role = rw one-role l;
+        lookup = rw one-role b;
+        unread = one-unread;
+        short = rw one-count n;
+        name = rw one-name w;
+      }
 
 -- message 3
 module _ (s : RakpMessage3) (code : List ℕ) where
@@ -180,14 +237,8 @@ module _ (s : RakpMessage3) (code : List ℕ) where
   unfolding message3
   three-tag = refl
 
-  pub three-status : getD (message3 s code) 1 0 ≡ 0
+  pub three-taken : (y : System) (request one : List ℕ) → s .system ≡ y .id → s .system < 2 ^ 32 → length code ≡ codeSize
+      → code ≡ code3 hmacSha1 (y .password) (y .random) (sidmIn request) (whoIn one) → TakesThree y request one (message3 s code)
   unfolding message3
-  three-status = refl
-
-  pub three-system : s .system < 2 ^ 32 → unle (part (message3 s code) 4 4) ≡ s .system
-  unfolding message3
-  three-system h = id-back (s .system) h
-
-  pub three-code : drop 8 (message3 s code) ≡ code
-  unfolding message3
-  three-code = refl
+  three-taken y request one i h n e =
+      record { size = omega (arith, n); status = refl; reserved = refl; system = id-back (s .system) h ∙ i; code = e }

@@ -9,3 +9,4 @@ pub mod Closing
 pub mod Heard
 pub mod Exchange
 pub mod Only
+pub mod Calls

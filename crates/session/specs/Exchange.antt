@@ -1,32 +1,91 @@
--- A whole exchange that went well (the Standard, 13.17 to 13.24; docs/RULES.md, section 7): a console that has begun and a system
--- each take what the other sends, and end with the same keys.
-use Prim.Native.Nat.{ℕ}
-use mathlib.Core.List.{List, _++_}
+-- A whole exchange (the Standard, 13.17 to 13.24; docs/RULES.md, section 7), said of a console's calls as they are seen from outside:
+-- `begin`, `open_response`, `message_2`, `message_4` and `sub_state`. proofs/Calls proves it of every row of calls that keep their
+-- promises, where each call is given the record that the one before it answered, and what the system sends upon the bytes that the
+-- calls before it wrote into their outputs.
+use Prim.Native.Nat.{ℕ, _≤_}
+use mathlib.Core.Bool.{true}
+use mathlib.Core.List.{List}
 use mathlib.Core.Path.{_≡_}
-use lib.Dec.{eqb}
-use Rattle.refusal.specs.Order.{refuse, accept}
-use Rattle.keys.specs.Keys.{aesKeyOf}
-use Rattle.session.specs.Record.{confidentialityIf, integrityIf}
-use Rattle.session.specs.Steps.{Made, openOf, twoOf, fourOf}
-use Rattle.session.specs.System.{System, headTo, response, second, valueIn, fourth, keysIn, TakesOne, TakesThree}
+use lib.ListN.{length, take}
+use Rattle.refusal.specs.Order.{refuse}
+use Rattle.refusal.specs.Outcome.{told}
+use Rattle.refusal.specs.declared.Outcome.the-variants.{Done}
+use Rattle.octets.specs.Place.{begun}
+use Rattle.keys.specs.Codes.{roleName}
+use Rattle.messages.specs.Name.{allowed}
+use Rattle.messages.specs.OpenSession.{levelByte}
+use Rattle.session.specs.Constants.{role, longestPassword, requestSize, oneSize, threeSize}
+use Rattle.session.specs.Record.{closed, noKeys, noneAgreed}
+use Rattle.session.specs.Steps.{levelAllowed}
+use Rattle.session.specs.Promise.{sessionWith}
+use Rattle.session.specs.System.{System, Regular, levelIn, sidmIn, rmIn, whoIn, keysIn, agreedIn, TakesRequest, TakesOne, TakesThree}
+use Rattle.session.specs.declared.Asked.{Asked}
+use Rattle.session.specs.declared.Record.{Record}
+use Rattle.session.specs.declared.Stepped.{Stepped}
+use Rattle.session.specs.declared.state.Established.{Established}
 use Rattle.session.specs.declared.Step.the-variants.{Open}
 
--- `began` is what Begin made; the console lends RM, rooms for messages 1 and 3, and the system's password and Kg
-pub record Exchange (most : ℕ) (y : System) (rm : List ℕ) (room₁ room₃ : ℕ) (began : Made) : Type 0 where
-  pub answered : Made
-  pub keyed : Made
-  pub opened : Made
-  pub accepts-response : openOf (began .next) (response y (began .bytes)) rm room₁ ≡ accept answered
-  pub takes-one : TakesOne y (answered .bytes)
-  pub accepts-two : twoOf most (answered .next) (y .kg) (y .password) (second y (began .bytes) (answered .bytes)) room₃ ≡ accept keyed
-  pub takes-three : TakesThree y (began .bytes) (answered .bytes) (keyed .bytes)
-  pub accepts-four : fourOf (keyed .next) (fourth y (began .bytes) (answered .bytes) (keyed .bytes)) ≡ accept opened
-  -- any other value in message 4's place is refused
-  pub refuses-other : (x : List ℕ) → (x ≡ valueIn y (answered .bytes) → ⊥)
-      → fourOf (keyed .next) (headTo (began .bytes) (keyed .bytes) ++ x) ≡ refuse 32 0
-  pub opens : opened .next .step ≡ Open
-  pub system : opened .next .system ≡ y .id
-  pub integrity : opened .next .agreed .integrity ≡ integrityIf (eqb (y .integrity) 0)
-  pub confidentiality : opened .next .agreed .confidentiality ≡ confidentialityIf (eqb (y .confidentiality) 0)
-  pub k1 : opened .next .keys .k1 ≡ keysIn y (answered .bytes) .k1
-  pub aes-key : aesKeyOf (opened .next .keys) ≡ aesKeyOf (keysIn y (answered .bytes))
+-- a call that writes: its output as it was lent, its answer, its output as it was left
+pub record Seen : Type 0 where
+  pub lent : List ℕ
+  pub answer : Stepped
+  pub left : List ℕ
+
+-- what it wrote: as many bytes as it tells, from the start of its output
+abbrev pub sent : Seen → List ℕ
+sent c = take (c .answer .len) (c .left)
+
+-- what the theorem asks for, of the calls that write the request, message 1 and message 3: a system of the Standard whose password is
+-- within the limit in force; an id, a level and a name that Begin takes (7.1); outputs as long as the messages
+pub record Suits (y : System) (asked : Asked) (name : List ℕ) (request one three : Seen) : Type 0 where
+  pub regular : Regular y
+  pub password : length (y .password) ≤ longestPassword
+  pub console : asked .console ≡ 0 → ⊥
+  pub level : levelAllowed (asked .level) ≡ true
+  pub username : allowed (take 16 name) ≡ true
+  pub room : requestSize ≤ length (request .lent)
+  pub room₁ : oneSize (length (take 16 name)) ≤ length (one .lent)
+  pub room₃ : threeSize ≤ length (three .lent)
+
+-- a call that was done: it wrote all the bytes that it tells, and those past them are as they were lent
+pub record Wrote (c : Seen) : Type 0 where
+  pub done : c .answer .answer ≡ Done
+  pub len : length (sent c) ≡ c .answer .len
+  pub rest : c .left ≡ begun (sent c) (c .lent)
+
+-- what the system makes of the three messages: it takes each, and hears the level, the id, RM, the role and the name n
+pub record Hears (y : System) (asked : Asked) (n rm request one three : List ℕ) : Type 0 where
+  pub takes-request : TakesRequest request
+  pub level : levelIn request ≡ levelByte (asked .level)
+  pub console : sidmIn request ≡ asked .console
+  pub takes-one : TakesOne y one
+  pub random : rmIn one ≡ rm
+  pub who : whoIn one ≡ roleName role n
+  pub takes-three : TakesThree y request one three
+
+-- a record that is open with the system's id, algorithms and keys, so K1 and the AES key
+pub record Opened (y : System) (one : List ℕ) (s : Record) : Type 0 where
+  pub step : s .step ≡ Open
+  pub system : s .system ≡ y .id
+  pub agreed : s .agreed ≡ agreedIn y
+  pub keys : s .keys ≡ keysIn y one
+
+-- every call is done, the system takes what was written, the record opens, and that is the session that is handed out
+pub record Exchange (y : System) (asked : Asked) (name rm : List ℕ) (request one three : Seen) (four : Stepped) (e : Established) : Type 0 where
+  pub begins : Wrote request
+  pub accepts-response : Wrote one
+  pub accepts-two : Wrote three
+  pub hears : Hears y asked (take 16 name) rm (sent request) (sent one) (sent three)
+  pub accepts-four : four .answer ≡ Done
+  pub writes-nothing : four .len ≡ 0
+  pub opens : Opened y (sent one) (four .state)
+  pub establishes : e .answer ≡ Done
+  pub session : e .session ≡ sessionWith (keysIn y (sent one)) (agreedIn y)
+
+-- with any other value in message 4's place: 32, the record closes, and 33 with no keys is what is handed out
+pub record Refuses (four : Stepped) (e : Established) : Type 0 where
+  pub refuses : told (four .answer) ≡ refuse 32 0
+  pub writes-nothing : four .len ≡ 0
+  pub closes : four .state ≡ closed
+  pub refuses-session : told (e .answer) ≡ refuse 33 0
+  pub session : e .session ≡ sessionWith noKeys noneAgreed

@@ -1,4 +1,4 @@
--- The cipher and the inverse cipher (FIPS 197, sections 5.1 and 5.3; docs/RULES.md, 4.1) over the round keys w,
+-- The cipher and the inverse cipher (FIPS 197 of 2001, sections 5.1 and 5.3; docs/RULES.md, 4.1) over the round keys w,
 -- for AES-128: ten rounds, eleven round keys.
 use Prim.Native.Nat.{ℕ, zero, suc}
 use mathlib.Core.List.{List}

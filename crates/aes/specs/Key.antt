@@ -1,4 +1,4 @@
--- KeyExpansion for a key of sixteen bytes (FIPS 197, section 5.2; docs/RULES.md, 4.1).
+-- KeyExpansion for a key of sixteen bytes (FIPS 197 of 2001, section 5.2; docs/RULES.md, 4.1).
 use Prim.Native.Nat.{ℕ, zero, suc, _+_, _*_, _/_, _%_, _-_}
 use mathlib.Core.Bool.{cond}
 use mathlib.Core.List.{List, [], _∷_, _++_}

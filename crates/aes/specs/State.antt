@@ -1,4 +1,4 @@
--- The transformations of the state (FIPS 197, sections 3.4, 5.1.2 to 5.1.4, 5.3.1, 5.3.3; docs/RULES.md, 4.1).
+-- The transformations of the state (FIPS 197 of 2001, sections 3.4, 5.1.2 to 5.1.4, 5.3.1, 5.3.3; docs/RULES.md, 4.1).
 -- A state is its sixteen bytes column by column, as a block has them: byte i stands in row i % 4 of column i / 4.
 use Prim.Native.Nat.{ℕ, _+_, _-_, _*_, _/_, _%_}
 use mathlib.Core.List.{List}

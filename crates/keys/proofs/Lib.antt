@@ -1,3 +1,4 @@
 pub mod Running
 pub mod Named
 pub mod Only
+pub mod Counts

@@ -1,4 +1,4 @@
--- The field GF(2^8) (FIPS 197, section 4; docs/RULES.md, 4.1). A byte is the polynomial that its bits are the
+-- The field GF(2^8) (FIPS 197 of 2001, section 4; docs/RULES.md, 4.1). A byte is the polynomial that its bits are the
 -- coefficients of; the sum of two is `bitXor`, and products are taken modulo x^8 + x^4 + x^3 + x + 1.
 use Prim.Native.Nat.{ℕ, zero, suc, _*_, _/_, _%_}
 use lib.Bits.{bitXor}

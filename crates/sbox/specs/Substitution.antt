@@ -1,4 +1,4 @@
--- The byte substitution and its inverse (FIPS 197, sections 5.1.1 and 5.3.2; docs/RULES.md, 4.2).
+-- The byte substitution and its inverse (FIPS 197 of 2001, sections 5.1.1 and 5.3.2; docs/RULES.md, 4.2).
 use Prim.Native.Nat.{ℕ, zero, suc, _+_, _*_, _/_, _%_, _^_}
 use mathlib.Core.List.{List}
 use lib.ListN.{getD}

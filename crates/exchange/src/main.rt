@@ -254,7 +254,10 @@ fn make_system_session() -> SubState {
 
 // What the system reads of a datagram.
 fn read_back(datagram: &mut [u8]) {
-    let r = frame::read_datagram(make_system_session(), datagram);
+    let session = make_system_session();
+    let r = frame::read_datagram(session, datagram);
+    let c = session.confidentiality;
+    let encrypted = frame::encrypts(c);
     let answer = r.answer;
     if let Reading::Accepted {
         ty: _,
@@ -263,7 +266,10 @@ fn read_back(datagram: &mut [u8]) {
         len,
     } = answer {
         if 4 <= datagram.len() {
-            print_line(b"read back ", frame::payload(&datagram[4..], true, len));
+            print_line(
+                b"read back ",
+                frame::payload(&datagram[4..], encrypted, len),
+            );
         }
     }
 }

@@ -1,4 +1,4 @@
-// Prints SHA-1 and HMAC-SHA1 of the documents' examples and of lengths 0 to 200; what is expected comes from elsewhere.
+// Prints SHA-1 and HMAC-SHA1 of the standards' examples and of lengths 0 to 200; what is expected comes from elsewhere.
 ghost use Prim.Native.Nat.{_≤_};
 ghost use lib.ListN.{length};
 use sha1::Hashed;

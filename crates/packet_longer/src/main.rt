@@ -1,0 +1,1 @@
+../../packet/src/main.rt

@@ -1,7 +1,7 @@
 """Packets to read and to write: legal ones with every pad, damaged ones, every boundary of the reader's order."""
 import aes
 from drawn import Word, line
-from model import hmac, session_keys
+from rules import hmac, session_keys
 
 SESSIONS = ((0, 0), (0, 1), (1, 0), (1, 1))
 TYPES = (0, 1, 16, 17, 18, 19, 20, 21)

@@ -1,6 +1,6 @@
 """Whole exchanges, by `steps` and by `script`: good ones, every status, every length, every byte of the short messages."""
 from drawn import Word, line
-from model import hmac
+from rules import hmac
 
 ORDER = ("kg", "level", "name", "password", "own", "rm", "opened", "m2", "m4")
 

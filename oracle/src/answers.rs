@@ -1,5 +1,6 @@
 //! One answer to each kind of case.
-use crate::line::{hex, hex_of, number, show, word};
+use crate::line::{hex, hex_of, number, room, show, word};
+use crate::messages;
 use crate::refusal::{caught, Refusal};
 use crate::rmcp::frame::{self, Session, OUTER};
 use crate::script;
@@ -10,7 +11,6 @@ use sha1::{Digest, Sha1};
 
 const LONGEST_LINE: usize = 524_288;
 const LONGEST_HASHED: usize = 1_048_576;
-const LARGEST_ROOM: u64 = 70_000;
 
 pub fn answer(line: &[u8]) -> Option<String> {
     if line.len() > LONGEST_LINE {
@@ -54,7 +54,7 @@ pub fn answer(line: &[u8]) -> Option<String> {
         (b"write", rest) => write(rest, 4),
         (b"wrap", rest) => write(rest, 0),
         (b"steps", rest) => script::steps(rest),
-        _ => None,
+        (verb, rest) => messages::answer(verb, rest),
     }
 }
 
@@ -139,10 +139,10 @@ fn read(session: &Session, mut buffer: Vec<u8>, at: usize) -> String {
 
 /// The crate's buffer starts with the four outer bytes; `skip` of them are not asked for.
 fn write(f: &[&[u8]], skip: usize) -> Option<String> {
-    let [conf, integ, sik, iv, ty, id, seq, room, payload] = f else { return None };
+    let [conf, integ, sik, iv, ty, id, seq, lent, payload] = f else { return None };
     let (session, iv) = (session(conf, integ, sik)?, hex_of(iv)?);
     let message = frame::message(number(ty, 255)? as u8, word(id)?, word(seq)?, hex(payload)?)?;
-    let room = number(room, LARGEST_ROOM)? as usize;
+    let room = room(lent)?;
     let end: Result<Vec<u8>, Refusal> = caught(|| {
         let packet = session.write(iv, &message)?.split_off(skip);
         if packet.len() > room {

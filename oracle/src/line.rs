@@ -42,6 +42,13 @@ pub fn level(field: &[u8]) -> Option<Option<u8>> {
     number(field, 255).map(|n| Some(n as u8))
 }
 
+/// The largest room that a call is lent.
+pub const LARGEST_ROOM: usize = 70_000;
+
+pub fn room(field: &[u8]) -> Option<usize> {
+    number(field, LARGEST_ROOM as u64).map(|n| n as usize)
+}
+
 pub fn show(bytes: &[u8]) -> String {
     use std::fmt::Write;
     if bytes.is_empty() {

@@ -3,6 +3,7 @@
 //! An answer says whose it is. `refused N` and `ok ..` are the crate's own. `harness N` stands where the crate has no such
 //! refusal (room, step, lengths of Kg and password, hash limit, outer header) and the rule is kept by this program.
 //! `blocks -` stands where the crate does not count. `panic FILE:LINE MESSAGE` stands where the crate does not return.
+//! `excluded` stands before what was written where the crate's types leave out a value of the case, which was put in here.
 pub use ipmi_rs_core::*;
 
 // Much of what the session layer's files say is of no use here.
@@ -11,6 +12,7 @@ pub mod rmcp;
 
 mod answers;
 mod line;
+mod messages;
 mod refusal;
 mod script;
 

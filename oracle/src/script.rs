@@ -1,11 +1,9 @@
 //! `steps` and `script`: the four steps on one record.
-use crate::line::{hex, hex_of, level, number, show, word};
+use crate::line::{hex, hex_of, level, room, show, word, LARGEST_ROOM};
 use crate::refusal::{caught, Refusal};
 use crate::rmcp::frame;
 use crate::rmcp::steps::{self, Record};
 use std::num::NonZeroU32;
-
-const ROOM: usize = 70_000;
 
 struct Steps {
     kg: Vec<u8>,
@@ -55,11 +53,11 @@ pub fn steps(f: &[&[u8]]) -> Option<String> {
 impl Steps {
     fn run(&self, record: &mut Record, sent: &mut Vec<Vec<u8>>) -> Result<(), Refusal> {
         let [opened, m2, m4] = &self.answers;
-        let (begun, request) = caught(|| steps::begin(self.own, self.level, &self.name, ROOM))?;
+        let (begun, request) = caught(|| steps::begin(self.own, self.level, &self.name, LARGEST_ROOM))?;
         *record = begun;
         sent.push(request);
-        sent.push(caught(|| record.open_response(ROOM, opened, self.rm))?);
-        sent.push(caught(|| record.message_2(ROOM, &self.kg, &self.password, m2))?);
+        sent.push(caught(|| record.open_response(LARGEST_ROOM, opened, self.rm))?);
+        sent.push(caught(|| record.message_2(LARGEST_ROOM, &self.kg, &self.password, m2))?);
         caught(|| record.message_4(m4))?;
         Ok(())
     }
@@ -101,10 +99,6 @@ enum Call {
     Open(usize, Vec<u8>, [u8; 16]),
     M2(usize, Vec<u8>, Vec<u8>, Vec<u8>),
     M4(Vec<u8>),
-}
-
-fn room(field: &[u8]) -> Option<usize> {
-    number(field, ROOM as u64).map(|n| n as usize)
 }
 
 fn call(text: &[u8]) -> Option<Call> {

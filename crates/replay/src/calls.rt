@@ -1,4 +1,5 @@
 // The four calls on a step record, each with the places of its fields in a line.
+use crate::numbers::read_level;
 use cases::Span;
 use cases::pick_part;
 use cases::read_bytes;
@@ -39,26 +40,6 @@ pub fn make_closed() -> Record {
     };
     let s = session::begin(asked, b"", &mut room);
     s.state
-}
-
-struct Level {
-    bad: bool,
-    level: RequestedPrivilege,
-}
-
-// A privilege level, or `none`.
-fn read_level(line: &[u8], k: usize) -> Level {
-    if octets::same(cases::pick_field(line, k), b"none") {
-        return Level {
-            bad: false,
-            level: RequestedPrivilege::None,
-        };
-    }
-    let n = cases::read_decimal(line, k, 255);
-    Level {
-        bad: n.bad,
-        level: RequestedPrivilege::Level((n.n % 256) as u8),
-    }
 }
 
 fn call_begin(

@@ -1,6 +1,6 @@
 // The cases of packets and datagrams.
+use crate::lent::Draft;
 use crate::lent::lend_part;
-use crate::lent::lend_room;
 use crate::say::say_blocks;
 use cases::pick_part;
 use cases::read_bytes;
@@ -13,6 +13,7 @@ use frame::Reading;
 use frame::SubState;
 use frame::Written;
 use keys::Keys;
+use refusal::Outcome;
 use refusal::Refusal;
 use text::Cursor;
 
@@ -190,32 +191,29 @@ fn read_type(line: &[u8], k: usize) -> Kind {
     }
 }
 
-// What is to be written, but for session and payload.
+// What is to be written, but for session, room and payload.
 struct Order {
     bad: bool,
     iv: [u8; 16],
     ty: PayloadType,
     id: u32,
     seq: u32,
-    room: u32,
 }
 
-// IV, TYPE, ID, SEQ and ROOM.
+// IV, TYPE, ID and SEQ.
 fn read_order(line: &[u8]) -> Order {
     let iv = cases::read_block(line, 4);
     let ty = read_type(line, 5);
     let id = cases::read_id(line, 6);
     let seq = cases::read_id(line, 7);
-    let room = cases::read_room(line, 8);
     let v = iv.bytes;
     let t = ty.ty;
     Order {
-        bad: iv.bad | ty.bad | id.bad | seq.bad | room.bad,
+        bad: iv.bad | ty.bad | id.bad | seq.bad,
         iv: v,
         ty: t,
         id: id.n,
         seq: seq.n,
-        room: room.n,
     }
 }
 
@@ -229,59 +227,27 @@ fn write_packet(s: SubState, o: Order, outer: bool, payload: &[u8], room: &mut [
     }
 }
 
-fn say_written(w: Written, room: &[u8], n: usize, out: &mut [u8], c: Cursor) -> Cursor {
+fn take_answer(bad: bool, w: Written) -> Draft {
     match w {
-        Written::Length(len) => {
-            let c = cases::say_bytes(out, c, b"ok ", pick_part(room, 0, len));
-            cases::say_spill(out, c, room, len, n)
-        }
-        Written::Refused(r) => {
-            let c = cases::say_refusal(out, c, r);
-            cases::say_spill(out, c, room, 0, n)
-        }
+        Written::Length(len) => Draft {
+            bad,
+            answer: Outcome::Done,
+            len,
+        },
+        Written::Refused(r) => Draft {
+            bad,
+            answer: Outcome::Refused(r),
+            len: 0,
+        },
     }
 }
 
-// What was written into the room that was lent.
-struct Output {
-    bad: bool,
-    written: Written,
-    room: usize,
-}
-
-// Writes the packet that a line asks for.
-fn write_line(line: &[u8], outer: bool, buf: &mut [u8], room: &mut [u8]) -> Output {
+// Writes the packet that a line asks for: `write CONF INTEG SIK IV TYPE ID SEQ ROOM PAYLOAD` and `wrap ..`.
+pub fn write_line(line: &[u8], outer: bool, buf: &mut [u8], room: &mut [u8]) -> Draft {
     let g = read_session(line);
     let o = read_order(line);
     let payload = read_bytes(line, 9, buf, 0);
     let s = g.session;
-    let n = o.room as usize;
-    Output {
-        bad: g.bad | o.bad | payload.bad,
-        written: write_packet(
-            s,
-            o,
-            outer,
-            pick_part(buf, 0, payload.to),
-            lend_room(room, n),
-        ),
-        room: n,
-    }
-}
-
-// `write CONF INTEG SIK IV TYPE ID SEQ ROOM PAYLOAD` and `wrap ..`.
-pub fn tell_written(
-    line: &[u8],
-    outer: bool,
-    buf: &mut [u8],
-    room: &mut [u8],
-    out: &mut [u8],
-    c: Cursor,
-) -> Cursor {
-    let w = write_line(line, outer, buf, room);
-    if w.bad {
-        return c;
-    }
-    let written = w.written;
-    say_written(written, room, w.room, out, c)
+    let w = write_packet(s, o, outer, pick_part(buf, 0, payload.to), room);
+    take_answer(g.bad | o.bad | payload.bad, w)
 }

@@ -8,10 +8,14 @@ mod ciphers;
 mod frames;
 mod hashes;
 mod lent;
+mod message_readers;
+mod message_writers;
+mod numbers;
 mod say;
 mod script;
 mod steps;
 mod words;
+mod writers;
 
 use cases::Input;
 use cases::pick_part;

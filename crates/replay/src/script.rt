@@ -3,10 +3,10 @@ use crate::calls;
 use crate::calls::Call;
 use crate::calls::Plan;
 use crate::lent::lend_room;
+use crate::say::say_output;
 use cases::Count;
 use cases::pick_field;
 use cases::pick_part;
-use refusal::Outcome;
 use session::Record;
 use session::Stepped;
 use text::Cursor;
@@ -98,25 +98,6 @@ fn run_call(script: &[u8], at: usize, state: Record, buf: &mut [u8], room: &mut 
     }
 }
 
-// The answer of a step that wrote a message.
-fn say_answer(a: Outcome, message: &[u8], out: &mut [u8], c: Cursor) -> Cursor {
-    match a {
-        Outcome::Done => cases::say_bytes(out, c, b"ok ", message),
-        Outcome::Refused(r) => {
-            let c = cases::say_refusal(out, c, r);
-            say_wrote(out, c, message)
-        }
-    }
-}
-
-// The message that a refusal wrote, if it wrote one.
-fn say_wrote(out: &mut [u8], c: Cursor, message: &[u8]) -> Cursor {
-    if message.len() == 0 {
-        return c;
-    }
-    cases::say_bytes(out, c, b" wrote ", message)
-}
-
 // Between two answers.
 fn part_answers(out: &mut [u8], c: Cursor, k: usize) -> Cursor {
     if k == 0 {
@@ -130,8 +111,7 @@ fn say_call(r: Ran, k: usize, room: &[u8], out: &mut [u8], c: Cursor) -> Cursor 
     let d = r.step;
     let a = d.answer;
     let c = part_answers(out, c, k);
-    let c = say_answer(a, pick_part(room, 0, d.len), out, c);
-    cases::say_spill(out, c, room, d.len, r.room)
+    say_output(a, d.len, room, r.room, out, c)
 }
 
 // The call at `at`, which k others stand before, and its answer.

@@ -1,4 +1,4 @@
-// The cases of the algorithm blocks and of the four steps, one after the other.
+// The case of the four steps, one after the other.
 use crate::calls;
 use crate::calls::Call;
 use crate::calls::Called;
@@ -8,37 +8,11 @@ use cases::pick_part;
 use frame::Confidentiality;
 use frame::Integrity;
 use frame::SubState;
-use messages::open_session::AlgorithmPayload;
-use messages::open_session::BlockAnswer;
 use refusal::Outcome;
 use refusal::Refusal;
 use session::Record;
 use session::Stepped;
 use text::Cursor;
-
-fn say_payload(out: &mut [u8], c: Cursor, p: AlgorithmPayload) -> Cursor {
-    match p {
-        AlgorithmPayload::Authentication(x) => {
-            cases::say_number(out, c, b"ok auth ", x.code() as u32)
-        }
-        AlgorithmPayload::Integrity(x) => cases::say_number(out, c, b"ok integ ", x.code() as u32),
-        AlgorithmPayload::Confidentiality(x) => {
-            cases::say_number(out, c, b"ok conf ", x.code() as u32)
-        }
-    }
-}
-
-// `block DATA`.
-pub fn tell_payload(line: &[u8], buf: &mut [u8], out: &mut [u8], c: Cursor) -> Cursor {
-    let data = cases::read_bytes(line, 1, buf, 0);
-    if data.bad {
-        return c;
-    }
-    match AlgorithmPayload::from_data(pick_part(buf, 0, data.to)) {
-        BlockAnswer::Block(p) => say_payload(out, c, p),
-        BlockAnswer::Refused(r) => cases::say_refusal(out, c, r),
-    }
-}
 
 fn say_end(out: &mut [u8], c: Cursor, r: Refusal) -> Cursor {
     let c = text::add(out, c, b" ");

@@ -3,44 +3,57 @@ use crate::ciphers;
 use crate::frames;
 use crate::hashes;
 use crate::hashes::Summing;
+use crate::message_readers;
+use crate::message_readers::Received;
 use crate::script;
 use crate::steps;
+use crate::writers;
+use crate::writers::Writer;
 use text::Cursor;
 
 // The cases, by what their answers need; what is in one tells the words of one shape apart.
 enum Case {
     Short(Short),
     Read(bool),
-    Write(bool),
+    Write(Writer),
     Steps,
     Script,
     Bad,
 }
 
-// The cases that are one call of the hash, the cipher or a block's reader.
+// The cases that are one call of the hash, the cipher, or the reader of a block or a message.
 enum Short {
     Hash(Summing),
     Block(bool),
     Cbc(bool),
     Keys,
-    Payload,
+    Received(Received),
 }
 
-// How many fields a line has that begins with the word at k, by which the words are in order; any number from 15 on.
+// How many fields a line has that begins with the word at k, by which the words are in order; any number from 22 on.
 fn count_fields(k: usize, n: usize) -> usize {
-    if k < 3 {
+    if k < 6 {
         return 2;
     }
-    if k < 8 {
+    if k < 11 {
         return 3;
     }
-    if k < 10 {
+    if k < 14 {
         return 4;
     }
-    if k < 12 {
+    if k < 17 {
         return 5;
     }
-    if k < 15 { 10 } else { n }
+    if k < 22 { count_more(k) } else { n }
+}
+
+// The same of a word from 17 on that has more than five.
+fn count_more(k: usize) -> usize {
+    match k {
+        17 => 7,
+        18 => 8,
+        _ => 10,
+    }
 }
 
 // The case of the word at k.
@@ -48,21 +61,28 @@ fn name_case(k: usize) -> Case {
     match k {
         0 => Case::Short(Short::Hash(Summing::Sha1)),
         1 => Case::Short(Short::Keys),
-        2 => Case::Short(Short::Payload),
-        3 => Case::Short(Short::Hash(Summing::Hmac)),
-        4 => Case::Short(Short::Hash(Summing::Zeros)),
-        5 => Case::Short(Short::Hash(Summing::HmacZeros)),
-        6 => Case::Short(Short::Block(false)),
-        7 => Case::Short(Short::Block(true)),
-        8 => Case::Short(Short::Cbc(false)),
-        9 => Case::Short(Short::Cbc(true)),
-        10 => Case::Read(false),
-        11 => Case::Read(true),
-        12 => Case::Write(false),
-        13 => Case::Write(true),
-        14 => Case::Steps,
-        15 => Case::Short(Short::Hash(Summing::Pieces)),
-        16 => Case::Script,
+        2 => Case::Short(Short::Received(Received::Block)),
+        3 => Case::Short(Short::Received(Received::Opened)),
+        4 => Case::Short(Short::Received(Received::Rakp2)),
+        5 => Case::Short(Short::Received(Received::Rakp4)),
+        6 => Case::Short(Short::Hash(Summing::Hmac)),
+        7 => Case::Short(Short::Hash(Summing::Zeros)),
+        8 => Case::Short(Short::Hash(Summing::HmacZeros)),
+        9 => Case::Short(Short::Block(false)),
+        10 => Case::Short(Short::Block(true)),
+        11 => Case::Short(Short::Cbc(false)),
+        12 => Case::Short(Short::Cbc(true)),
+        13 => Case::Write(Writer::Decline),
+        14 => Case::Read(false),
+        15 => Case::Read(true),
+        16 => Case::Write(Writer::Rakp3),
+        17 => Case::Write(Writer::Rakp1),
+        18 => Case::Write(Writer::OpenRequest),
+        19 => Case::Write(Writer::Packet(false)),
+        20 => Case::Write(Writer::Packet(true)),
+        21 => Case::Steps,
+        22 => Case::Short(Short::Hash(Summing::Pieces)),
+        23 => Case::Script,
         _ => Case::Bad,
     }
 }
@@ -70,7 +90,8 @@ fn name_case(k: usize) -> Case {
 // Which word the line begins with.
 fn find_word(line: &[u8]) -> usize {
     let words =
-        b"sha1 keys block hmac zeros hmac-zeros encrypt decrypt cbc-encrypt cbc-decrypt read datagram write wrap steps pieces script";
+        b"sha1 keys block opened rakp2 rakp4 hmac zeros hmac-zeros encrypt decrypt cbc-encrypt cbc-decrypt decline \
+        read datagram rakp3 rakp1 open-request write wrap steps pieces script";
     cases::look_up(words, cases::pick_field(line, 0))
 }
 
@@ -91,7 +112,7 @@ fn tell_short(line: &[u8], which: Short, buf: &mut [u8], out: &mut [u8], c: Curs
         Short::Block(decrypts) => ciphers::tell_block(line, decrypts, out, c),
         Short::Cbc(decrypts) => ciphers::tell_cbc(line, decrypts, buf, out, c),
         Short::Keys => ciphers::tell_keys(line, out, c),
-        Short::Payload => steps::tell_payload(line, buf, out, c),
+        Short::Received(which) => message_readers::tell_received(line, which, buf, out, c),
     }
 }
 
@@ -100,7 +121,7 @@ fn tell_case(line: &[u8], buf: &mut [u8], room: &mut [u8], out: &mut [u8], c: Cu
     match find_case(line) {
         Case::Short(which) => tell_short(line, which, buf, out, c),
         Case::Read(outer) => frames::tell_read(line, outer, buf, out, c),
-        Case::Write(outer) => frames::tell_written(line, outer, buf, room, out, c),
+        Case::Write(which) => writers::tell_written(line, which, buf, room, out, c),
         Case::Steps => steps::tell_steps(line, buf, out, c),
         Case::Script => script::tell_script(line, buf, room, out, c),
         Case::Bad => c,

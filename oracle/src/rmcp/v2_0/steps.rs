@@ -33,7 +33,7 @@ pub enum Record {
 type Sent = Result<Vec<u8>, Refusal>;
 
 /// Each byte of a name as one character: what is not text cannot be given to the crate at all.
-fn text(name: &[u8]) -> String {
+pub(super) fn text(name: &[u8]) -> String {
     String::from_utf8(name.to_vec()).unwrap_or_else(|_| name.iter().map(|b| *b as char).collect())
 }
 

@@ -1,6 +1,6 @@
 -- A whole exchange over the definitions of the steps: a console that has begun, and a system that follows the definitions with the
 -- same password and the same Kg, take each other's messages and end with the same keys. proofs/Calls carries it to the calls.
-use Prim.Native.Nat.{ℕ, _+_, _^_, _≤_, _<_}
+use Prim.Native.Nat.{ℕ, _^_, _≤_, _<_}
 use native.Mathlib.Omega.{arith}
 use mathlib.Core.Bool.{true}
 use mathlib.Core.List.{List, [], _++_}

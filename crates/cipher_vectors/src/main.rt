@@ -29,7 +29,7 @@ fn show_keys(a: Aes128) {
     }
 }
 
-// A document's block, there and back.
+// A standard's block, there and back.
 fn show_block(key: [u8; 16], p: [u8; 16]) {
     let a = Aes128::new(key);
     let c = a.encrypt_block(p);

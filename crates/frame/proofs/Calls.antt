@@ -4,7 +4,7 @@ use Prim.Native.Nat.{ℕ}
 use mathlib.Core.Bool.{Bool, true}
 use mathlib.Core.List.{List, []}
 use mathlib.Core.Logic.{_↔_}
-use mathlib.Core.Path.{_≡_, refl, sym, _∙_, ap}
+use mathlib.Core.Path.{_≡_, refl, sym, _∙_, ap, subst₂}
 use lib.ListN.{length, getD, take, drop}
 use denote.Ref.{now}
 use mir.Syntax.{w8, w32}
@@ -19,9 +19,9 @@ use Rattle.octets.proofs.Place.{begun-take}
 use Rattle.framing.specs.Known.{known}
 use Rattle.framing.specs.Suite.{Suite, Laws}
 use Rattle.framing.specs.Packet.{Message}
-use Rattle.framing.specs.Read.{readOf, leftOf}
+use Rattle.framing.specs.Read.{readOf}
 use Rattle.framing.specs.Write.{wroteBy}
-use Rattle.framing.specs.Outer.{readDatagramOf, leftDatagram}
+use Rattle.framing.specs.Outer.{readDatagramOf}
 use Rattle.framing.specs.Payload.{payloadOf, PassesOrNone}
 use Rattle.framing.specs.Told.{counted}
 use Rattle.framing.specs.Frames.{FrameOf, DatagramOf, Given}
@@ -29,6 +29,7 @@ use Rattle.framing.proofs.Exactly.{frame-read, accepts-exactly, datagram-read, 
 use Rattle.framing.proofs.Opened.{payload-empty, frame-payload, datagram-payload}
 use Rattle.framing.proofs.RoundTrip.{written-frame, written-datagram}
 use Rattle.suite.specs.Session.{suiteOf}
+use Rattle.suite.specs.declared.SubState.{SubState}
 use Rattle.suite.specs.declared.PayloadType.{PayloadType}
 use Rattle.suite.specs.declared.PayloadType.the-variants.{IpmiMessage, Sol, RmcpPlusOpenSessionRequest, RmcpPlusOpenSessionResponse}
 use Rattle.suite.specs.declared.PayloadType.the-variants.{RakpMessage1, RakpMessage2, RakpMessage3, RakpMessage4}
@@ -41,7 +42,7 @@ use Rattle.writer.proofs.write_payload.Kinds as write-payload-kinds
 use Rattle.writer.proofs.write_payload.Reads as write-payload-reads
 use Rattle.writer.proofs.write_datagram.Kinds as write-datagram-kinds
 use Rattle.writer.proofs.write_datagram.Reads as write-datagram-reads
-use Rattle.frame.specs.Exact.{messageTold, Exact, ReadBack}
+use Rattle.frame.specs.Exact.{ReadSeen, WriteSeen, messageTold, Exact, Follows, ReadBack}
 use Rattle.frame.proofs.Exact.{exact, read-back}
 use Rattle.frame.proofs.place.payload.Kinds as payload-kinds
 use Rattle.frame.proofs.place.payload.Reads as payload-reads
@@ -83,35 +84,70 @@ payload-call-empty c =
     let e = payload-empty (now (c .args .0)) (c .args .1 .0) (c .args .1 .1 .0) in
     (λ f. e .0 (sym (c .kept .0) ∙ f), λ f. c .kept .0 ∙ e .1 f)
 
--- a packet that is read: the arguments are session and packet
+-- the calls as they are seen from outside
+abbrev pub seenRead : ReadCall → ReadSeen
+seenRead c = record { session = c .args .0; lent = now (c .args .1 .0); answer = c .answer .answer; left = now (c .exit .1 .0) }
+
+abbrev pub seenReadDatagram : ReadDatagramCall → ReadSeen
+seenReadDatagram c = record { session = c .args .0; lent = now (c .args .1 .0); answer = c .answer .answer; left = now (c .exit .1 .0) }
+
+abbrev pub seenWrite : WriteCall → WriteSeen
+seenWrite c =
+    record {
+      session = c .args .0;
+      ty = c .args .1 .0;
+      id = c .args .1 .1 .0;
+      seq = c .args .1 .1 .1 .0;
+      payload = now (c .args .1 .1 .1 .1 .0);
+      answer = c .answer;
+      left = now (c .exit .1 .1 .1 .1 .1 .1 .0);
+    }
+
+abbrev pub seenWriteDatagram : WriteDatagramCall → WriteSeen
+seenWriteDatagram c =
+    record {
+      session = c .args .0;
+      ty = c .args .1 .0;
+      id = c .args .1 .1 .0;
+      seq = c .args .1 .1 .1 .0;
+      payload = now (c .args .1 .1 .1 .1 .0);
+      answer = c .answer;
+      left = now (c .exit .1 .1 .1 .1 .1 .1 .0);
+    }
+
+-- a packet that is read
 module _ (c : ReadCall) where
+  abbrev r : ReadSeen
+  r = seenRead c
+
   read-laws : Laws (suiteOf (c .args .0))
   read-laws = suite-laws (c .args .0) (λ k. let f : Fits w8 (getD (c .args .0 .keys .k2) k 0) = search (needs, c .typed) in f .fits)
 
-  pub read-payload-exact : Exact (λ M. FrameOf (suiteOf (c .args .0)) M (now (c .args .1 .0))) (c .answer .answer)
-      (Hands (now (c .exit .1 .0)) (suiteOf (c .args .0) .aes))
+  pub read-payload-exact : Exact (λ M. FrameOf (suiteOf (seenRead c .session)) M (seenRead c .lent)) (seenRead c .answer)
+      (Hands (seenRead c .left) (suiteOf (seenRead c .session) .aes))
   read-payload-exact =
-      let S : Suite = suiteOf (c .args .0) in
-      let l : List ℕ = now (c .args .1 .0) in
-      let e = accepts-exactly S read-laws l (c .kept .1) in
-      exact (readOf S l) (c .answer .answer) (c .kept .0 .tells .answer) (Hands (now (c .exit .1 .0)) (S .aes)) (λ M. FrameOf S M l) e
+      let S : Suite = suiteOf (r .session) in
+      let e = accepts-exactly S read-laws (r .lent) (c .kept .1) in
+      exact (readOf S (r .lent)) (r .answer) (c .kept .0 .tells .answer) (Hands (r .left) (S .aes)) (λ M. FrameOf S M (r .lent)) e
       (λ M x f h. handed _ _ _ x h ∙ ap (λ (y : List ℕ). payloadOf y (S .aes) (length (M .payload))) (c .kept .0 .buffer)
-      ∙ frame-payload S read-laws M l (e M .0 f))
+      ∙ frame-payload S read-laws M (r .lent) (e M .0 f))
 
 -- a datagram that is read: the packet is what stands behind its first four bytes
 module _ (c : ReadDatagramCall) where
+  abbrev d : ReadSeen
+  d = seenReadDatagram c
+
   datagram-laws : Laws (suiteOf (c .args .0))
   datagram-laws = suite-laws (c .args .0) (λ k. let f : Fits w8 (getD (c .args .0 .keys .k2) k 0) = search (needs, c .typed) in f .fits)
 
-  pub read-datagram-exact : Exact (λ M. DatagramOf (suiteOf (c .args .0)) M (now (c .args .1 .0))) (c .answer .answer)
-      (Hands (drop 4 (now (c .exit .1 .0))) (suiteOf (c .args .0) .aes))
+  pub read-datagram-exact : Exact (λ M. DatagramOf (suiteOf (seenReadDatagram c .session)) M (seenReadDatagram c .lent)) (seenReadDatagram c .answer)
+      (Hands (drop 4 (seenReadDatagram c .left)) (suiteOf (seenReadDatagram c .session) .aes))
   read-datagram-exact =
-      let S : Suite = suiteOf (c .args .0) in
-      let d : List ℕ = now (c .args .1 .0) in
-      let e = datagram-exactly S datagram-laws d (c .kept .1) in
-      exact (readDatagramOf S d) (c .answer .answer) (c .kept .0 .tells .answer) (Hands (drop 4 (now (c .exit .1 .0))) (S .aes)) (λ M. DatagramOf S M d) e
+      let S : Suite = suiteOf (d .session) in
+      let e = datagram-exactly S datagram-laws (d .lent) (c .kept .1) in
+      exact (readDatagramOf S (d .lent)) (d .answer) (c .kept .0 .tells .answer) (Hands (drop 4 (d .left)) (S .aes)) (λ M. DatagramOf S M (d .lent)) e
       (λ M x f h. handed _ _ _ x h ∙ ap (λ (y : List ℕ). payloadOf (drop 4 y) (S .aes) (length (M .payload))) (c .kept .0 .buffer)
-      ∙ datagram-payload S datagram-laws M d (e M .0 f))
+      ∙ datagram-payload S datagram-laws M (d .lent) (e M .0 f))
 
 -- what a writer told the length of is what it wrote
 wrote : (R : Res (List ℕ)) (out : List ℕ) (w : Written) (n : ℕ) (exit : List ℕ) → w ≡ Length n → WritePromise R out w exit → R ≡ accept (take n exit)
@@ -139,9 +175,6 @@ module _ (κs : _) (args : Dens κs write-payload-kinds.ps) where
   message = messageTold (args .1 .0) (args .1 .1 .0) (args .1 .1 .1 .0) (now (args .1 .1 .1 .1 .0))
 
   module _ (g : GoodsP κs write-payload-kinds.ps args) where
-    write-laws : Laws (suiteOf (args .0))
-    write-laws = suite-laws (args .0) (λ k. let f : Fits w8 (getD (args .0 .keys .k2) k 0) = search (needs, g) in f .fits)
-
     given : Bytes (now (args .1 .1 .1 .1 .0)) → Given message (args .1 .1 .1 .1 .1 .0)
     given b =
         record {
@@ -153,36 +186,32 @@ module _ (κs : _) (args : Dens κs write-payload-kinds.ps) where
           iv-bytes = λ k. let f : Fits w8 (getD (args .1 .1 .1 .1 .1 .0) k 0) = search (needs, g) in f .fits;
         }
 
--- a packet that a write call wrote, the first n bytes of its output, is read back by a read call of the same session
-module _ (w : WriteCall) (n : ℕ) (wrote-n : w .answer ≡ Length n) (c : ReadCall)
-    (same : c .args .0 ≡ w .args .0) (copied : now (c .args .1 .0) ≡ take n (now (w .exit .1 .1 .1 .1 .1 .1 .0))) where
-  pub write-payload-read-back : ReadBack (w .args .1 .0) (w .args .1 .1 .0) (w .args .1 .1 .1 .0) (now (w .args .1 .1 .1 .1 .0)) (c .answer .answer)
-      (Hands (now (c .exit .1 .0)) (suiteOf (w .args .0) .aes))
+-- a packet that a write call wrote is read back by a read call
+module _ (w : WriteCall) (c : ReadCall) (f : Follows (seenWrite w) (seenRead c)) where
+  pub write-payload-read-back : ReadBack (seenWrite w) (seenRead c .answer) (Hands (seenRead c .left) (suiteOf (seenRead c .session) .aes))
   write-payload-read-back =
-      let S : Suite = suiteOf (w .args .0) in
+      let S : Suite = suiteOf (seenRead c .session) in
       let M : Message = message (w .κs) (w .args) in
-      let L : Laws S = write-laws (w .κs) (w .args) (w .typed) in
+      let L : Laws S = read-laws c in
       let g = given (w .κs) (w .args) (w .typed) (w .kept .1) in
-      let f = written-frame S (suite-lengths (w .args .0)) M _ g _ _ (wrote _ _ (w .answer) n _ wrote-n (w .kept .0)) in
-      read-back _ (c .answer .answer) (c .kept .0 .tells .answer) _ (w .args .1 .0) (w .args .1 .1 .0) (w .args .1 .1 .1 .0) _
-      ((λ i. readOf (suiteOf (same i)) (copied i)) ∙ frame-read S L M _ f)
-      (λ x h. handed _ _ _ x h
-      ∙ ap (λ (y : List ℕ). payloadOf y (S .aes) (length (M .payload))) (c .kept .0 .buffer ∙ λ i. leftOf (suiteOf (same i)) (copied i))
-      ∙ frame-payload S L M _ f)
+      let R = wrote _ _ (w .answer) (f .length) _ (f .told) (w .kept .0) in
+      let made = written-frame (suiteOf (w .args .0)) (suite-lengths (w .args .0) .enc-length) M _ g _ _ R in
+      let o : FrameOf S M (seenRead c .lent) = subst₂ (λ (s : SubState) (l : List ℕ). FrameOf (suiteOf s) M l) (sym (f .session)) (sym (f .lent)) made in
+      read-back _ (seenRead c .answer) (c .kept .0 .tells .answer) _ (seenWrite w) (frame-read S L M _ o)
+      (λ x h. handed _ _ _ x h ∙ ap (λ (y : List ℕ). payloadOf y (S .aes) (length (M .payload))) (c .kept .0 .buffer) ∙ frame-payload S L M _ o)
 
 -- and so is a datagram
-module _ (w : WriteDatagramCall) (n : ℕ) (wrote-n : w .answer ≡ Length n) (c : ReadDatagramCall)
-    (same : c .args .0 ≡ w .args .0) (copied : now (c .args .1 .0) ≡ take n (now (w .exit .1 .1 .1 .1 .1 .1 .0))) where
-  pub write-datagram-read-back : ReadBack (w .args .1 .0) (w .args .1 .1 .0) (w .args .1 .1 .1 .0) (now (w .args .1 .1 .1 .1 .0)) (c .answer .answer)
-      (Hands (drop 4 (now (c .exit .1 .0))) (suiteOf (w .args .0) .aes))
+module _ (w : WriteDatagramCall) (c : ReadDatagramCall) (f : Follows (seenWriteDatagram w) (seenReadDatagram c)) where
+  pub write-datagram-read-back : ReadBack (seenWriteDatagram w) (seenReadDatagram c .answer)
+      (Hands (drop 4 (seenReadDatagram c .left)) (suiteOf (seenReadDatagram c .session) .aes))
   write-datagram-read-back =
-      let S : Suite = suiteOf (w .args .0) in
+      let S : Suite = suiteOf (seenReadDatagram c .session) in
       let M : Message = message (w .κs) (w .args) in
-      let L : Laws S = write-laws (w .κs) (w .args) (w .typed) in
+      let L : Laws S = datagram-laws c in
       let g = given (w .κs) (w .args) (w .typed) (w .kept .1) in
-      let f = written-datagram S (suite-lengths (w .args .0)) M _ g _ _ (wrote _ _ (w .answer) n _ wrote-n (w .kept .0)) in
-      read-back _ (c .answer .answer) (c .kept .0 .tells .answer) _ (w .args .1 .0) (w .args .1 .1 .0) (w .args .1 .1 .1 .0) _
-      ((λ i. readDatagramOf (suiteOf (same i)) (copied i)) ∙ datagram-read S L M _ f)
-      (λ x h. handed _ _ _ x h
-      ∙ ap (λ (y : List ℕ). payloadOf (drop 4 y) (S .aes) (length (M .payload))) (c .kept .0 .buffer ∙ λ i. leftDatagram (suiteOf (same i)) (copied i))
-      ∙ datagram-payload S L M _ f)
+      let R = wrote _ _ (w .answer) (f .length) _ (f .told) (w .kept .0) in
+      let made = written-datagram (suiteOf (w .args .0)) (suite-lengths (w .args .0) .enc-length) M _ g _ _ R in
+      let o : DatagramOf S M (seenReadDatagram c .lent)
+      = subst₂ (λ (s : SubState) (l : List ℕ). DatagramOf (suiteOf s) M l) (sym (f .session)) (sym (f .lent)) made in
+      read-back _ (seenReadDatagram c .answer) (c .kept .0 .tells .answer) _ (seenWriteDatagram w) (datagram-read S L M _ o)
+      (λ x h. handed _ _ _ x h ∙ ap (λ (y : List ℕ). payloadOf (drop 4 y) (S .aes) (length (M .payload))) (c .kept .0 .buffer) ∙ datagram-payload S L M _ o)

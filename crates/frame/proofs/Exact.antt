@@ -16,7 +16,7 @@ use Rattle.reader.specs.Answers.{readTold}
 use Rattle.reader.specs.declared.Reading.{Reading}
 use Rattle.reader.specs.declared.Reading.the-variants.{Accepted, Refused}
 use Rattle.reader.proofs.Only.{reading-one}
-use Rattle.frame.specs.Exact.{messageTold, Exact, ReadBack}
+use Rattle.frame.specs.Exact.{WriteSeen, messageTold, Exact, ReadBack}
 
 module _ (R : Res Message) (answer : Reading) (told : readTold answer ≡ shown R) where
   -- a refusal is answered exactly where one was found
@@ -71,7 +71,7 @@ module _ (R : Res Message) (answer : Reading) (told : readTold answer ≡ shown 
         }
 
     -- and a message that is found is answered by its numbers
-    pub read-back : (t : PayloadType) (i q : ℕ) (payload : List ℕ) → R ≡ accept (messageTold t i q payload)
-        → ((x : List ℕ) → Hands (length payload) x → x ≡ payload) → ReadBack t i q payload answer Hands
+    pub read-back : (w : WriteSeen) → R ≡ accept (messageTold (w .ty) (w .id) (w .seq) (w .payload))
+        → ((x : List ℕ) → Hands (length (w .payload)) x → x ≡ w .payload) → ReadBack w answer Hands
     unfolding shown
-    read-back t i q payload e bytes = record { answered = reading-one _ _ (told ∙ then-accept R _ _ e); handed = bytes }
+    read-back w e bytes = record { answered = reading-one _ _ (told ∙ then-accept R _ _ e); handed = bytes }

@@ -77,8 +77,8 @@ module _ (S : Suite) (M : Message) (iv : List ℕ) (z : Taken) (hp : S .aes ≡ 
     unfolding writeOf writeDatagramOf
     writes =
         record {
-          body = λ L hi. ap length (sym same-body) ∙ size-body S L M iv hi ∙ hb;
-          size = λ L hi. ap length (sym same-packet) ∙ size-ours S L M iv hi ∙ same-size;
+          body = λ K hi. ap length (sym same-body) ∙ size-body S M iv hi K ∙ hb;
+          size = λ L hi. ap length (sym same-packet) ∙ size-ours S M iv hi L ∙ same-size;
           packet = λ room k. written [] room (omega arith);
           datagram = written outer;
         }

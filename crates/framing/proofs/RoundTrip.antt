@@ -9,7 +9,7 @@ use lib.Dec.{leb}
 use borrow.Author.Tests.{leb-true}
 use Rattle.refusal.specs.Order.{accept}
 use Rattle.refusal.proofs.Order.{need-inv, accept-inj, then-inv}
-use Rattle.framing.specs.Suite.{Suite, Lengths}
+use Rattle.framing.specs.Suite.{Suite, KeepsLength, Lengths}
 use Rattle.framing.specs.Packet.{Message, Filling, Legal, plainOf, bodyOf, framed, covered}
 use Rattle.framing.specs.Write.{leastP, leastQ, bodySize, trailerSize, packetSize, ourFilling, ours, longestPayload, roomOf, writeAfter}
 use Rattle.framing.specs.Outer.{outer, writeOf, writeDatagramOf}
@@ -32,7 +32,7 @@ q-serves n = omega arith
 pub q-least : (n q : ℕ) → (n + q + 2) % 4 ≡ 0 → leastQ n ≤ q
 q-least n q h = omega arith
 
-module _ (S : Suite) (L : Lengths S) (M : Message) (iv : List ℕ) (hi : length iv ≡ 16) where
+module _ (S : Suite) (M : Message) (iv : List ℕ) (hi : S .aes ≡ true → length iv ≡ 16) where
   abbrev n : ℕ
   n = length (M .payload)
 
@@ -43,21 +43,21 @@ module _ (S : Suite) (L : Lengths S) (M : Message) (iv : List ℕ) (hi : length 
   whole = ap (λ (k : ℕ). k % 16) (length-plain (M .payload) (leastP n)) ∙ p-serves n
 
   -- the sizes are those of what is written
-  pub size-body : length (bodyOf S M (ourFilling S iv (M .payload))) ≡ bodySize (S .aes) (length (M .payload))
+  pub size-body : KeepsLength S → length (bodyOf S M (ourFilling S iv (M .payload))) ≡ bodySize (S .aes) (length (M .payload))
   unfolding bodyOf
-  size-body =
+  size-body K =
       let x : List ℕ = plainOf (M .payload) (leastP n) in
       let sum : 16 + (n + leastP n + 1) ≡ 16 + n + leastP n + 1 = omega arith in
       by-cases (S .aes)
       (λ e. ap length (cond-true (S .aes) (iv ++ S .enc iv x) (M .payload) e) ∙ length-append iv (S .enc iv x)
-      ∙ ap₂ (λ (i j : ℕ). i + j) hi (L .enc-length e iv x whole ∙ length-plain (M .payload) (leastP n)) ∙ sum ∙ sym (ap (λ (b : Bool). bodySize b n) e))
+      ∙ ap₂ (λ (i j : ℕ). i + j) (hi e) (K e iv x whole ∙ length-plain (M .payload) (leastP n)) ∙ sum ∙ sym (ap (λ (b : Bool). bodySize b n) e))
       (λ e. ap length (cond-false (S .aes) (iv ++ S .enc iv x) (M .payload) e) ∙ sym (ap (λ (b : Bool). bodySize b n) e))
 
-  pub size-ours : length (ours S M iv) ≡ packetSize S (length (M .payload))
+  pub size-ours : Lengths S → length (ours S M iv) ≡ packetSize S (length (M .payload))
   unfolding ours covered
-  size-ours =
+  size-ours L =
       let k : ℕ = 12 + bodySize (S .aes) n in
-      let frame : length (framed S M F) ≡ k = length-framed S M F ∙ ap (λ (i : ℕ). 12 + i) size-body in
+      let frame : length (framed S M F) ≡ k = length-framed S M F ∙ ap (λ (i : ℕ). 12 + i) (size-body (L .enc-length)) in
       let count : length (F .pads) ≡ leastQ k = length-replicate {A = ℕ} (leastQ k) 0xFF in
       by-cases (S .auth)
       (λ e.
@@ -69,8 +69,9 @@ module _ (S : Suite) (L : Lengths S) (M : Message) (iv : List ℕ) (hi : length 
       (λ e. ap length (build-bare S M F e) ∙ frame ∙ (let none : k ≡ k + 0 = omega arith in none) ∙ ap (λ (b : Bool). k + trailerSize b (S .m) k) (sym e))
 
   -- what is written is a frame of the rules where the payload is not too long
-  pub ours-legal : Given M iv → length (M .payload) ≤ 65535 → (S .aes ≡ true → length (M .payload) ≤ 65503) → Legal S M (ourFilling S iv (M .payload))
-  ours-legal g h a =
+  pub ours-legal : KeepsLength S → Given M iv → length (M .payload) ≤ 65535 → (S .aes ≡ true → length (M .payload) ≤ 65503)
+      → Legal S M (ourFilling S iv (M .payload))
+  ours-legal K g h a =
       let k : ℕ = 12 + bodySize (S .aes) n in
       let count : length (F .pads) ≡ leastQ k = length-replicate {A = ℕ} (leastQ k) 0xFF in
       let few : length (F .pads) ≤ 255 = omega arith in
@@ -82,8 +83,8 @@ module _ (S : Suite) (L : Lengths S) (M : Message) (iv : List ℕ) (hi : length 
         id-fits = g .id-fits;
         seq-fits = g .seq-fits;
         payload-bytes = g .payload-bytes;
-        body-fits = subst (λ (i : ℕ). i ≤ 65535) (sym size-body) fits;
-        iv-size = λ _. hi;
+        body-fits = subst (λ (i : ℕ). i ≤ 65535) (sym (size-body K)) fits;
+        iv-size = hi;
         iv-bytes = λ _. g .iv-bytes;
         p-fits = λ _. omega arith;
         whole = λ _. whole;
@@ -101,21 +102,21 @@ module _ (S : Suite) (L : Lengths S) (M : Message) (iv : List ℕ) (hi : length 
       let t2 = need-inv _ _ _ _ (t1 .1) in
       (leb-true _ _ (t1 .0), λ a. leb-true _ _ (sym (ap (λ (b : Bool). leb n (longestPayload b)) a) ∙ t2 .0), sym (accept-inj _ _ (t .2)))
 
-module _ (S : Suite) (L : Lengths S) (M : Message) (iv : List ℕ) (g : Given M iv) (room : ℕ) where
+module _ (S : Suite) (K : KeepsLength S) (M : Message) (iv : List ℕ) (g : Given M iv) (room : ℕ) where
   ours-frame : length (M .payload) ≤ 65535 → (S .aes ≡ true → length (M .payload) ≤ 65503) → FrameOf S M (ours S M iv)
   unfolding ours
-  ours-frame h a = record { filling = ourFilling S iv (M .payload); legal = ours-legal S L M iv (g .iv-size) g h a; bytes = refl }
+  ours-frame h a = record { filling = ourFilling S iv (M .payload); legal = ours-legal S M iv (λ _. g .iv-size) K g h a; bytes = refl }
 
   -- a packet that was written is a frame of what it was made from
   pub written-frame : (l : List ℕ) → writeOf S M iv room ≡ accept l → FrameOf S M l
   unfolding writeOf
   written-frame l e =
-      let w = written-inv S L M iv (g .iv-size) [] room l e in
+      let w = written-inv S M iv (λ _. g .iv-size) [] room l e in
       subst (FrameOf S M) (sym (w .2)) (ours-frame (w .0) (w .1))
 
   -- and so is a datagram
   pub written-datagram : (d : List ℕ) → writeDatagramOf S M iv room ≡ accept d → DatagramOf S M d
   unfolding writeDatagramOf
   written-datagram d e =
-      let w = written-inv S L M iv (g .iv-size) outer room d e in
+      let w = written-inv S M iv (λ _. g .iv-size) outer room d e in
       record { packet = ours S M iv; bytes = sym (w .2); frame = ours-frame (w .0) (w .1) }

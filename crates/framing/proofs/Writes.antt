@@ -94,7 +94,7 @@ module _ (S : Suite) (L : Lengths S) (M : Message) (iv : List ℕ) (hi : length 
 
   size : length (bodyOf S M F) ≡ n
   unfolding F
-  size = size-body S L M iv hi ∙ sym hn
+  size = size-body S M iv (λ _. hi) (L .enc-length) ∙ sym hn
 
   length-h : length h ≡ 12
   unfolding headerOf
@@ -159,7 +159,7 @@ module _ (S : Suite) (M : Message) (iv before d : List ℕ) (t : Res ℕ) (e : t
   write-yes L hi n x f b =
       let all : R ≡ accept (before ++ ours S M iv) = then-accept (roomOf S (length before) (length (M .payload)) (length d)) _ n (sym e ∙ f) in
       let size : length (before ++ ours S M iv) ≡ n
-      = length-append before (ours S M iv) ∙ ap (λ (k : ℕ). length before + k) (size-ours S L M iv hi)
+      = length-append before (ours S M iv) ∙ ap (λ (k : ℕ). length before + k) (size-ours S M iv (λ _. hi) L)
       ∙ sym (room-inv S (length before) (length (M .payload)) (length d) n (sym e ∙ f) .2) in
       (counted-yes R (before ++ ours S M iv) n all size, b ∙ sym (ap (λ (r : Res (List ℕ)). wroteBy r d) all))
 

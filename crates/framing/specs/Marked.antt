@@ -8,7 +8,7 @@ use lib.Dec.{eqb}
 use Rattle.refusal.specs.Order.{Res, refuse, accept, need, andThen}
 use Rattle.running.specs.Hash.{Hash}
 use Rattle.running.specs.Mac.{hmacBlocksOf}
-use Rattle.framing.specs.Suite.{Suite, Lengths}
+use Rattle.framing.specs.Suite.{Suite, KeepsLength, Lengths}
 use Rattle.framing.specs.Packet.{Message, Filling, bodyOf, build}
 use Rattle.framing.specs.Read.{messageOf, bodyLength, headOf, coverage, codeOf, beforeTrailer, payloadIn, readOf}
 use Rattle.framing.specs.Outer.{outer, writeOf, writeDatagramOf}
@@ -37,11 +37,15 @@ fillingOf iv z = record { iv = iv; p = z .p; pads = replicate (z .q) 0xFF }
 abbrev pub sizeOf : Suite → Taken → ℕ
 sizeOf S z = 12 + z .body + cond (S .auth) (z .q + 2 + S .m) 0
 
+-- the IV has sixteen bytes, where there is one
+abbrev pub Sixteen : Suite → List ℕ → Type 0
+Sixteen S iv = S .aes ≡ true → length iv ≡ 16
+
 -- the writer accepts a message: the packet is what the rules build with that filling, and it is written wherever it has room; the sizes of
 -- body and packet are those named, so long as code and encryption have the lengths that they should
 pub record Writes (S : Suite) (M : Message) (iv : List ℕ) (z : Taken) : Type 0 where
-  pub body : Lengths S → length iv ≡ 16 → length (bodyOf S M (fillingOf iv z)) ≡ z .body
-  pub size : Lengths S → length iv ≡ 16 → length (build S M (fillingOf iv z)) ≡ sizeOf S z
+  pub body : KeepsLength S → Sixteen S iv → length (bodyOf S M (fillingOf iv z)) ≡ z .body
+  pub size : Lengths S → Sixteen S iv → length (build S M (fillingOf iv z)) ≡ sizeOf S z
   pub packet : (room : ℕ) → sizeOf S z ≤ room → writeOf S M iv room ≡ accept (build S M (fillingOf iv z))
   pub datagram : (room : ℕ) → 4 + sizeOf S z ≤ room → writeDatagramOf S M iv room ≡ accept (outer ++ build S M (fillingOf iv z))
 

@@ -29,7 +29,11 @@ pub record Laws (S : Suite) : Type 0 where
   pub dec-enc : (iv l : List ℕ) → length iv ≡ 16 → Bytes iv → length l % 16 ≡ 0 → Bytes l → S .dec iv (S .enc iv l) ≡ l
   pub enc-dec : (iv l : List ℕ) → length iv ≡ 16 → Bytes iv → length l % 16 ≡ 0 → Bytes l → S .enc iv (S .dec iv l) ≡ l
 
--- all that the sizes of packets ask of them: of the code where there is one, of the encryption where there is one
+-- all that the size of a body asks of them: where there is encryption, that it keeps the length
+abbrev pub KeepsLength : Suite → Type 0
+KeepsLength S = S .aes ≡ true → (iv l : List ℕ) → length l % 16 ≡ 0 → length (S .enc iv l) ≡ length l
+
+-- and the size of a packet: where there is a code, that it has its length
 pub record Lengths (S : Suite) : Type 0 where
   pub mac-length : S .auth ≡ true → (l : List ℕ) → length (S .mac l) ≡ S .m
-  pub enc-length : S .aes ≡ true → (iv l : List ℕ) → length l % 16 ≡ 0 → length (S .enc iv l) ≡ length l
+  pub enc-length : KeepsLength S

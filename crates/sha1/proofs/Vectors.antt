@@ -1,4 +1,4 @@
--- The definitions on the worked examples of the documents, computed: FIPS 180-4's message `abc` (its digest is the one that the
+-- The definitions on the worked examples of the standards, computed: FIPS 180-4's message `abc` (its digest is the one that the
 -- standard's examples give) and case 2 of RFC 2202, section 3. No code is involved.
 use mathlib.Core.Path.{_≡_, refl}
 use mathlib.Core.List.{[], _∷_}

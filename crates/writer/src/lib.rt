@@ -189,6 +189,7 @@ fn write_code(s: SubState, k: usize, out: &mut [u8])
 {
     let q = choose_q(k);
     put_trailer(out, k, q);
+    // where the next header, 07, stands
     let next = k + q + 1;
     let n = next + 1;
     let c = suite::make_code(s, &out[..n]);

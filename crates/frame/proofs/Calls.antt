@@ -91,63 +91,58 @@ seenRead c = record { session = c .args .0; lent = now (c .args .1 .0); answer =
 abbrev pub seenReadDatagram : ReadDatagramCall → ReadSeen
 seenReadDatagram c = record { session = c .args .0; lent = now (c .args .1 .0); answer = c .answer .answer; left = now (c .exit .1 .0) }
 
-abbrev pub seenWrite : WriteCall → WriteSeen
-seenWrite c =
+-- the arguments of both write calls have the same kinds: session, type, id, number, payload, IV, output
+abbrev pub seenArguments : (κs : _) → Dens κs write-payload-kinds.ps → Written → List ℕ → WriteSeen
+seenArguments κs args answer left =
     record {
-      session = c .args .0;
-      ty = c .args .1 .0;
-      id = c .args .1 .1 .0;
-      seq = c .args .1 .1 .1 .0;
-      payload = now (c .args .1 .1 .1 .1 .0);
-      answer = c .answer;
-      left = now (c .exit .1 .1 .1 .1 .1 .1 .0);
+      session = args .0;
+      ty = args .1 .0;
+      id = args .1 .1 .0;
+      seq = args .1 .1 .1 .0;
+      payload = now (args .1 .1 .1 .1 .0);
+      answer = answer;
+      left = left;
     }
 
+abbrev pub seenWrite : WriteCall → WriteSeen
+seenWrite c = seenArguments (c .κs) (c .args) (c .answer) (now (c .exit .1 .1 .1 .1 .1 .1 .0))
+
 abbrev pub seenWriteDatagram : WriteDatagramCall → WriteSeen
-seenWriteDatagram c =
-    record {
-      session = c .args .0;
-      ty = c .args .1 .0;
-      id = c .args .1 .1 .0;
-      seq = c .args .1 .1 .1 .0;
-      payload = now (c .args .1 .1 .1 .1 .0);
-      answer = c .answer;
-      left = now (c .exit .1 .1 .1 .1 .1 .1 .0);
-    }
+seenWriteDatagram c = seenArguments (c .κs) (c .args) (c .answer) (now (c .exit .1 .1 .1 .1 .1 .1 .0))
+
+-- the algorithms of the session of both read calls, which have the same kinds too
+read-laws : (κs : _) (args : _) → GoodsP κs read-payload-kinds.ps args → Laws (suiteOf (args .0))
+read-laws κs args g = suite-laws (args .0) (λ k. let f : Fits w8 (getD (args .0 .keys .k2) k 0) = search (needs, g) in f .fits)
 
 -- a packet that is read
 module _ (c : ReadCall) where
   abbrev r : ReadSeen
   r = seenRead c
 
-  read-laws : Laws (suiteOf (c .args .0))
-  read-laws = suite-laws (c .args .0) (λ k. let f : Fits w8 (getD (c .args .0 .keys .k2) k 0) = search (needs, c .typed) in f .fits)
-
   pub read-payload-exact : Exact (λ M. FrameOf (suiteOf (seenRead c .session)) M (seenRead c .lent)) (seenRead c .answer)
       (Hands (seenRead c .left) (suiteOf (seenRead c .session) .aes))
   read-payload-exact =
       let S : Suite = suiteOf (r .session) in
-      let e = accepts-exactly S read-laws (r .lent) (c .kept .1) in
+      let L : Laws S = read-laws (c .κs) (c .args) (c .typed) in
+      let e = accepts-exactly S L (r .lent) (c .kept .1) in
       exact (readOf S (r .lent)) (r .answer) (c .kept .0 .tells .answer) (Hands (r .left) (S .aes)) (λ M. FrameOf S M (r .lent)) e
       (λ M x f h. handed _ _ _ x h ∙ ap (λ (y : List ℕ). payloadOf y (S .aes) (length (M .payload))) (c .kept .0 .buffer)
-      ∙ frame-payload S read-laws M (r .lent) (e M .0 f))
+      ∙ frame-payload S L M (r .lent) (e M .0 f))
 
 -- a datagram that is read: the packet is what stands behind its first four bytes
 module _ (c : ReadDatagramCall) where
   abbrev d : ReadSeen
   d = seenReadDatagram c
 
-  datagram-laws : Laws (suiteOf (c .args .0))
-  datagram-laws = suite-laws (c .args .0) (λ k. let f : Fits w8 (getD (c .args .0 .keys .k2) k 0) = search (needs, c .typed) in f .fits)
-
   pub read-datagram-exact : Exact (λ M. DatagramOf (suiteOf (seenReadDatagram c .session)) M (seenReadDatagram c .lent)) (seenReadDatagram c .answer)
       (Hands (drop 4 (seenReadDatagram c .left)) (suiteOf (seenReadDatagram c .session) .aes))
   read-datagram-exact =
       let S : Suite = suiteOf (d .session) in
-      let e = datagram-exactly S datagram-laws (d .lent) (c .kept .1) in
+      let L : Laws S = read-laws (c .κs) (c .args) (c .typed) in
+      let e = datagram-exactly S L (d .lent) (c .kept .1) in
       exact (readDatagramOf S (d .lent)) (d .answer) (c .kept .0 .tells .answer) (Hands (drop 4 (d .left)) (S .aes)) (λ M. DatagramOf S M (d .lent)) e
       (λ M x f h. handed _ _ _ x h ∙ ap (λ (y : List ℕ). payloadOf (drop 4 y) (S .aes) (length (M .payload))) (c .kept .0 .buffer)
-      ∙ datagram-payload S datagram-laws M (d .lent) (e M .0 f))
+      ∙ datagram-payload S L M (d .lent) (e M .0 f))
 
 -- what a writer told the length of is what it wrote
 wrote : (R : Res (List ℕ)) (out : List ℕ) (w : Written) (n : ℕ) (exit : List ℕ) → w ≡ Length n → WritePromise R out w exit → R ≡ accept (take n exit)
@@ -169,7 +164,7 @@ type-known RakpMessage2 = refl
 type-known RakpMessage3 = refl
 type-known RakpMessage4 = refl
 
--- the arguments of both write calls, which have the same kinds: session, type, id, number, payload, IV, output
+-- what the arguments of a write call give
 module _ (κs : _) (args : Dens κs write-payload-kinds.ps) where
   abbrev message : Message
   message = messageTold (args .1 .0) (args .1 .1 .0) (args .1 .1 .1 .0) (now (args .1 .1 .1 .1 .0))
@@ -192,7 +187,7 @@ module _ (w : WriteCall) (c : ReadCall) (f : Follows (seenWrite w) (seenRead c))
   write-payload-read-back =
       let S : Suite = suiteOf (seenRead c .session) in
       let M : Message = message (w .κs) (w .args) in
-      let L : Laws S = read-laws c in
+      let L : Laws S = read-laws (c .κs) (c .args) (c .typed) in
       let g = given (w .κs) (w .args) (w .typed) (w .kept .1) in
       let R = wrote _ _ (w .answer) (f .length) _ (f .told) (w .kept .0) in
       let made = written-frame (suiteOf (w .args .0)) (suite-lengths (w .args .0) .enc-length) M _ g _ _ R in
@@ -207,7 +202,7 @@ module _ (w : WriteDatagramCall) (c : ReadDatagramCall) (f : Follows (seenWriteD
   write-datagram-read-back =
       let S : Suite = suiteOf (seenReadDatagram c .session) in
       let M : Message = message (w .κs) (w .args) in
-      let L : Laws S = datagram-laws c in
+      let L : Laws S = read-laws (c .κs) (c .args) (c .typed) in
       let g = given (w .κs) (w .args) (w .typed) (w .kept .1) in
       let R = wrote _ _ (w .answer) (f .length) _ (f .told) (w .kept .0) in
       let made = written-datagram (suiteOf (w .args .0)) (suite-lengths (w .args .0) .enc-length) M _ g _ _ R in

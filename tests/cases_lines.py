@@ -18,7 +18,7 @@ def samples(d):
 
 
 def spoilt(good):
-    """The line with one thing wrong."""
+    """The line with one thing wrong or changed."""
     fields = good.split(" ")
     yield " " + good
     yield good + " "

@@ -5,8 +5,8 @@ import hashlib, os, re, sys
 
 sys.path.insert(0, os.path.dirname(os.path.abspath(__file__)))
 import aes
-from rules import (LIMIT, OUTER, TYPES, Record, Refused, block, hmac, hmac_blocks, message_1, message_2, message_3, message_4, need,
-                   read, request, response, session_keys, sha1_blocks, username, write)
+from rules import (LIMIT, OUTER, TYPES, Arrivals, Record, Refused, block, hmac, hmac_blocks, message_1, message_2, message_3, message_4,
+                   need, read, read_once, request, response, session_keys, sha1_blocks, username, write)
 
 LONGEST_LINE, LARGEST_ROOM = 524288, 70000
 
@@ -128,12 +128,57 @@ def a_read(conf, integ, sik, packet):
     return told(read(conf, integ, sik, packet), packet)
 
 
-def a_datagram(conf, integ, sik, datagram):
+def of_datagram(datagram, reader):
     if len(datagram) < 4:
         return "refused 1 blocks 0 buf same"
     if datagram[:4] != OUTER:
         return "refused 16 blocks 0 buf same"
-    return told(read(conf, integ, sik, datagram[4:]), datagram, OUTER)
+    return told(reader(datagram[4:]), datagram, OUTER)
+
+
+def a_datagram(conf, integ, sik, datagram):
+    return of_datagram(datagram, lambda packet: read(conf, integ, sik, packet))
+
+
+def record_of(record):
+    return " record %08x %08x" % (record.highest, record.seen)
+
+
+def counted(record):
+    return "%s count %d" % (record_of(record), record.count())
+
+
+def arrived(record, n):
+    try:
+        record.take(n)
+        return "ok"
+    except Refused as r:
+        return str(r)
+
+
+def a_arrive(highest, seen, n):
+    record = Arrivals(highest, seen)
+    return arrived(record, n) + counted(record)
+
+
+def a_arrivals(numbers):
+    record = Arrivals()
+    return "; ".join([arrived(record, n) for n in numbers]) + counted(record)
+
+
+def a_once(conf, integ, sik, highest, seen, packet):
+    record = Arrivals(highest, seen)
+    return told(read_once(record, conf, integ, sik, packet), packet) + record_of(record)
+
+
+def a_once_datagram(conf, integ, sik, highest, seen, datagram):
+    record = Arrivals(highest, seen)
+    return of_datagram(datagram, lambda packet: read_once(record, conf, integ, sik, packet)) + record_of(record)
+
+
+def a_pieces(pieces):
+    joined = b"".join(pieces)
+    return hashed(len(joined), hashlib.sha1(joined).hexdigest())
 
 
 def a_cbc(way):
@@ -217,10 +262,14 @@ CASES = {
     "rakp4": ((data,), a_rakp4),
     "read": ((flag, flag, sik_of, data), a_read),
     "datagram": ((flag, flag, sik_of, data), a_datagram),
+    "arrive": ((word, word, word), a_arrive),
+    "once": ((flag, flag, sik_of, word, word, data), a_once),
+    "once-datagram": ((flag, flag, sik_of, word, word, data), a_once_datagram),
     "write": (FRAMED, lambda *a: "ok " + write(*a, False).hex()),
     "wrap": (FRAMED, lambda *a: "ok " + write(*a, True).hex()),
     "steps": ((data, level, data, data, word, block16, data, data, data), steps),
 }
+LISTS = {"pieces": (data, a_pieces), "arrivals": (word, a_arrivals)}
 CALLS = {
     "begin": (word, level, data, room),
     "open": (room, data, block16),
@@ -255,10 +304,10 @@ def answer(line):
         if line.startswith("script "):
             return script(line[7:])
         name, *fields = line.split(" ")
-        if name == "pieces":
+        if name in LISTS:
             check(fields)
-            joined = b"".join(data(f) for f in fields)
-            return hashed(len(joined), hashlib.sha1(joined).hexdigest())
+            reader, work = LISTS[name]
+            return work([reader(field) for field in fields])
         check(name in CASES)
         readers, work = CASES[name]
         arguments = taken(fields, readers)

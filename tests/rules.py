@@ -1,5 +1,5 @@
-"""The rules of docs/RULES.md a second time, in Python: hash, keys, frame, messages and steps. It is written from the rules alone
-and shares nothing with the proved code. What is refused raises `Refused`."""
+"""The rules of docs/RULES.md a second time, in Python: hash, keys, frame, arrivals, messages and steps. It is written from the rules
+alone and shares nothing with the proved code. What is refused raises `Refused`."""
 import hmac as hmaclib
 from functools import lru_cache
 
@@ -113,6 +113,38 @@ def write(conf, integ, sik, iv, kind, ident, seq, room, payload, outer):
     packet = (OUTER if outer else b"") + packet
     need(len(packet) <= room, 15)
     return packet
+
+
+# Arrivals: which sequence numbers of a session were taken (rule 10)
+
+class Arrivals:
+    """The highest number taken, and which of the 32 numbers that end there were: bit k of `seen` is the mark of `highest - k`."""
+
+    def __init__(self, highest=0, seen=0):
+        self.highest, self.seen = highest, seen
+
+    def take(self, n):
+        below = self.highest - n
+        need(n > 0 and below <= 31, 39)
+        need(below < 0 or not self.seen >> below & 1, 38)
+        if below < 0:
+            self.seen = self.seen << min(-below, 32) & 0xFFFFFFFF
+            self.highest, below = n, 0
+        self.seen |= 1 << below
+
+    def count(self):
+        return bin(self.seen).count("1")
+
+
+def read_once(record, *given):
+    """A packet read, and the record moved by its number; the number is looked at only where the packet is a frame."""
+    result, blocks = read(*given)
+    try:
+        if not isinstance(result, Refused):
+            record.take(result[2])
+    except Refused as r:
+        result = r
+    return result, blocks
 
 
 # Messages and steps (rule 7)

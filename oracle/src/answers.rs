@@ -1,4 +1,5 @@
 //! One answer to each kind of case.
+use crate::arrivals;
 use crate::line::{hex, hex_of, number, room, show, word};
 use crate::messages;
 use crate::refusal::{caught, Refusal};
@@ -42,15 +43,11 @@ pub fn answer(line: &[u8]) -> Option<String> {
             Ok((kind, code)) => format!("ok {kind} {code}"),
             Err(refusal) => refusal.to_string(),
         }),
-        (b"read", [conf, integ, sik, packet]) => Some(read(&session(conf, integ, sik)?, hex(packet)?, 0)),
+        (b"read", [conf, integ, sik, packet]) => Some(read(&session(conf, integ, sik)?, hex(packet)?, 0, |_| Ok(()))),
         (b"datagram", [conf, integ, sik, datagram]) => {
-            let (session, datagram) = (session(conf, integ, sik)?, hex(datagram)?);
-            Some(match datagram.get(..4) {
-                None => "harness 1 blocks - buf same".to_string(),
-                Some(outer) if outer != OUTER => "harness 16 blocks - buf same".to_string(),
-                Some(_) => read(&session, datagram, 4),
-            })
+            Some(read_datagram(&session(conf, integ, sik)?, hex(datagram)?, |_| Ok(())))
         }
+        (b"arrive" | b"arrivals" | b"once" | b"once-datagram", rest) => arrivals::answer(f[0], rest),
         (b"write", rest) => write(rest, 4),
         (b"wrap", rest) => write(rest, 0),
         (b"steps", rest) => script::steps(rest),
@@ -116,14 +113,30 @@ fn cbc(key: [u8; 16], iv: [u8; 16], mut data: Vec<u8>, forth: bool) -> String {
     }
 }
 
-fn session(conf: &[u8], integ: &[u8], sik: &[u8]) -> Option<Session> {
+pub fn session(conf: &[u8], integ: &[u8], sik: &[u8]) -> Option<Session> {
     Some(Session { conf: number(conf, 1)? == 1, integ: number(integ, 1)? == 1, sik: hex_of(sik)? })
 }
 
-/// The packet stands in `buffer` from `at` on; the buffer after the call is told whole.
-fn read(session: &Session, mut buffer: Vec<u8>, at: usize) -> String {
+/// The four outer bytes are looked at here, the rest is the crate's.
+pub fn read_datagram(session: &Session, datagram: Vec<u8>, guard: impl FnOnce(u32) -> Result<(), Refusal>) -> String {
+    match datagram.get(..4) {
+        None => "harness 1 blocks - buf same".to_string(),
+        Some(outer) if outer != OUTER => "harness 16 blocks - buf same".to_string(),
+        Some(_) => read(session, datagram, 4, guard),
+    }
+}
+
+/// The packet stands in `buffer` from `at` on; the buffer after the call is told whole. `guard` is asked about the number of
+/// a packet that the crate reads; where it refuses, the buffer is put back as it was.
+pub fn read(session: &Session, mut buffer: Vec<u8>, at: usize, guard: impl FnOnce(u32) -> Result<(), Refusal>) -> String {
     let before = buffer.clone();
-    let end = caught(|| session.read(&mut buffer[at..]));
+    let end = caught(|| session.read(&mut buffer[at..])).and_then(|m| match guard(m.session_sequence_number) {
+        Ok(()) => Ok(m),
+        Err(refusal) => {
+            buffer.clone_from(&before);
+            Err(refusal)
+        }
+    });
     let after = if buffer == before { "same".to_string() } else { show(&buffer) };
     match end {
         Ok(m) => format!(

@@ -1,19 +1,21 @@
 // One packet, read or written many times over, for counting instructions (tests/cost, docs/COST.md). Standard input is a letter, `r` for
-// reading or `w` for writing; a digit, 0, 1 or 2 for a payload of 7, 64 or 1,024 bytes; then a byte for each turn.
+// reading, `o` for reading once or `w` for writing; a digit, 0, 1 or 2 for a payload of 7, 64 or 1,024 bytes; then a byte for each turn.
 ghost use mathlib.Core.Path.{_≡_};
 ghost use Prim.Native.Nat.{_≤_};
 ghost use lib.ListN.{length};
+use arrivals::Arrivals;
 use frame::Confidentiality;
 use frame::Integrity;
 use frame::PayloadType;
+use frame::Read;
 use frame::Reading;
 use frame::SubState;
 use frame::Written;
 use keys::Keys;
 use libc::STDOUT_FILENO;
 
-// What the turns found: the lengths of all packets or payloads, and the last byte of each, added up. Every turn is in it, so that the
-// compiler can leave none out.
+// What the turns found: the lengths of all packets or payloads, and the last byte of each, added up; where packets are read once, with
+// the two numbers of each record. Every turn is in it, so that the compiler can leave none out.
 struct Found {
     lengths: usize,
     ends: usize,
@@ -84,10 +86,8 @@ fn write_packet(s: SubState, payload: &[u8], out: &mut [u8]) -> usize {
     }
 }
 
-// Reads a copy of the packet and answers the payload's length, 0 where it was refused.
-fn read_packet(s: SubState, packet: &[u8], copy: &mut [u8]) -> usize {
-    octets::put(copy, 0, packet);
-    let r = frame::read_payload(s, copy);
+// The payload's length, 0 where the packet was refused.
+fn find_length(r: Read) -> usize {
     let answer = r.answer;
     match answer {
         Reading::Accepted {
@@ -98,6 +98,12 @@ fn read_packet(s: SubState, packet: &[u8], copy: &mut [u8]) -> usize {
         } => len,
         Reading::Refused(_) => 0,
     }
+}
+
+// Reads a copy of the packet and answers the payload's length, 0 where it was refused.
+fn read_packet(s: SubState, packet: &[u8], copy: &mut [u8]) -> usize {
+    octets::put(copy, 0, packet);
+    find_length(frame::read_payload(s, copy))
 }
 
 fn repeat_write(s: SubState, payload: &[u8], out: &mut [u8], turns: usize) -> Found {
@@ -128,10 +134,62 @@ fn repeat_read(s: SubState, packet: &[u8], copy: &mut [u8], turns: usize) -> Fou
     f
 }
 
+// A new record: the turns are too few to make it another. The compiler cannot know that, and so leaves out no check of a packet's number.
+fn make_record(turns: usize) -> Arrivals {
+    let zero = (turns / 0x100000000) as u32;
+    Arrivals {
+        highest: zero,
+        seen: zero,
+    }
+}
+
+// What was found before, and a copy of the packet more, read once: its payload and the record after it.
+fn add_read_once(
+    before: Found,
+    s: SubState,
+    arrivals: Arrivals,
+    packet: &[u8],
+    copy: &mut [u8],
+) -> Found {
+    octets::put(copy, 0, packet);
+    let r = once::read_payload(s, arrivals, copy);
+    let n = find_length(r.read);
+    let f = add_found(before, frame::payload(copy, true, n), n);
+    let after = r.arrivals;
+    Found {
+        lengths: std::num::wrapping_add_usize(f.lengths, after.highest as usize),
+        ends: std::num::wrapping_add_usize(f.ends, after.seen as usize),
+    }
+}
+
+fn repeat_read_once(s: SubState, packet: &[u8], copy: &mut [u8], turns: usize) -> Found {
+    let arrivals = make_record(turns);
+    let mut f = Found {
+        lengths: 0,
+        ends: 0,
+    };
+    let mut i: usize = 0;
+    while i < turns {
+        f = add_read_once(f, s, arrivals, packet, copy);
+        i += 1;
+    }
+    f
+}
+
 // Cuts the two lent pieces and reads: the packet is the first `n` bytes of `out`, and its copy has as many.
-fn cut_and_read(s: SubState, out: &[u8], copy: &mut [u8], n: usize, turns: usize) -> Found {
+fn cut_and_read(
+    s: SubState,
+    out: &[u8],
+    copy: &mut [u8],
+    n: usize,
+    turns: usize,
+    once: bool,
+) -> Found {
     if n <= out.len() {
         if n <= copy.len() {
+            if once {
+                return repeat_read_once(s, &out[..n], &mut copy[..n], turns);
+            }
             return repeat_read(s, &out[..n], &mut copy[..n], turns);
         }
     }
@@ -146,12 +204,12 @@ fn run_write(payload: &[u8], turns: usize) -> Found {
     repeat_write(make_session(), payload, &mut out, turns)
 }
 
-fn run_read(payload: &[u8], turns: usize) -> Found {
+fn run_read(payload: &[u8], turns: usize, once: bool) -> Found {
     let s = make_session();
     let mut out = make_room();
     let mut copy = make_room();
     let n = write_packet(s, payload, &mut out);
-    cut_and_read(s, &out, &mut copy, n, turns)
+    cut_and_read(s, &out, &mut copy, n, turns, once)
 }
 
 fn spell_digit(n: usize) -> u8 {
@@ -187,7 +245,11 @@ fn tell(verb: &[u8], turns: usize, f: Found) {
 fn run_letter(letter: u8, payload: &[u8], turns: usize) -> bool {
     match letter {
         b'r' => {
-            tell(b"read", turns, run_read(payload, turns));
+            tell(b"read", turns, run_read(payload, turns, false));
+            true
+        }
+        b'o' => {
+            tell(b"read once", turns, run_read(payload, turns, true));
             true
         }
         b'w' => {

@@ -1,13 +1,14 @@
-// A whole exchange on fixed bytes: Begin to the first packet, which the system's own keys read back. What the system sends and what
-// is printed here were worked out elsewhere (tests/exchange-expected).
+// A whole exchange on fixed bytes: Begin to the first packet, which the system's own keys read back, and the system's answer, which arrives
+// twice and is taken once. What the system sends and what is printed here were worked out elsewhere (tests/exchange-expected).
+use arrivals::Arrivals;
 use frame::PayloadType;
-use frame::Read;
 use frame::Reading;
 use frame::SubState;
 use frame::Written;
 use keys::Keys;
 use libc::STDOUT_FILENO;
 use messages::open_session::RequestedPrivilege;
+use refusal::Refusal;
 use session::Asked;
 use session::Record;
 use text::Cursor;
@@ -137,6 +138,90 @@ const MESSAGE_4: [u8; 20] = [
     0x4c,
 ];
 
+// The system's first datagram, the answer to the console's.
+const ANSWER: [u8; 80] = [
+    0x06,
+    0x00,
+    0xff,
+    0x07,
+    0x06,
+    0xc0,
+    0xa4,
+    0xa3,
+    0xa2,
+    0x0a,
+    0x01,
+    0x00,
+    0x00,
+    0x00,
+    0x30,
+    0x00,
+    0x80,
+    0x81,
+    0x82,
+    0x83,
+    0x84,
+    0x85,
+    0x86,
+    0x87,
+    0x88,
+    0x89,
+    0x8a,
+    0x8b,
+    0x8c,
+    0x8d,
+    0x8e,
+    0x8f,
+    0x05,
+    0xb7,
+    0x52,
+    0x18,
+    0x5a,
+    0x43,
+    0x33,
+    0xd7,
+    0x8f,
+    0x5f,
+    0x4e,
+    0xf5,
+    0x50,
+    0x75,
+    0x8f,
+    0x61,
+    0x13,
+    0xfc,
+    0x74,
+    0x3f,
+    0x06,
+    0xce,
+    0x3b,
+    0x13,
+    0x97,
+    0x6d,
+    0xd7,
+    0x4a,
+    0xa9,
+    0x9b,
+    0x4d,
+    0x7b,
+    0xff,
+    0xff,
+    0x02,
+    0x07,
+    0x8b,
+    0x9e,
+    0xd4,
+    0x90,
+    0x4f,
+    0x04,
+    0x07,
+    0x68,
+    0x8b,
+    0x6b,
+    0x61,
+    0xe8,
+];
+
 const RM: [u8; 16] = [
     0x10,
     0x11,
@@ -222,6 +307,14 @@ fn print_message(label: &[u8], n: usize, out: &[u8]) {
     }
 }
 
+// A line of a refusal's number.
+fn print_refusal(label: &[u8], why: Refusal) {
+    io::write_all(STDOUT_FILENO, label);
+    io::write_all(STDOUT_FILENO, b"refused ");
+    io::print_decimal(STDOUT_FILENO, why.number() as u64);
+    io::write_all(STDOUT_FILENO, b"\n");
+}
+
 // The console's four steps.
 fn open_session() -> Record {
     let mut out = [0u8; 64];
@@ -274,13 +367,67 @@ fn read_back(datagram: &mut [u8]) {
     }
 }
 
-fn main() {
-    let made = session::sub_state(open_session());
-    let s = made.session;
-    let k = s.keys;
+// An open session and the record of what arrived in it, which the console holds together.
+struct Held {
+    session: SubState,
+    arrivals: Arrivals,
+}
+
+// A session that was just opened starts with a new record.
+fn hold(session: SubState) -> Held {
+    Held {
+        session,
+        arrivals: Arrivals::new(),
+    }
+}
+
+// A line of the payload that was read out of a datagram.
+fn print_payload(label: &[u8], session: SubState, datagram: &[u8], len: usize) {
+    let c = session.confidentiality;
+    let encrypted = frame::encrypts(c);
+    if 4 <= datagram.len() {
+        print_line(label, frame::payload(&datagram[4..], encrypted, len));
+    }
+}
+
+// What the console reads of a datagram that arrives; it then holds the session with the record after it.
+fn read_once(label: &[u8], held: Held, datagram: &mut [u8]) -> Held {
+    let session = held.session;
+    let o = once::read_datagram(session, held.arrivals, datagram);
+    let r = o.read;
+    let answer = r.answer;
+    match answer {
+        Reading::Accepted {
+            ty: _,
+            session_id: _,
+            session_sequence_number: _,
+            len,
+        } => print_payload(label, session, datagram, len),
+        Reading::Refused(why) => print_refusal(label, why),
+    }
+    let arrivals = o.arrivals;
+    Held { session, arrivals }
+}
+
+// The system's answer arrives at the console, and the same bytes come again.
+fn read_answer_twice(console: Held) {
+    let mut first = ANSWER;
+    let mut again = ANSWER;
+    let console = read_once(b"answer ", console, &mut first);
+    read_once(b"answer again ", console, &mut again);
+}
+
+fn print_keys(k: Keys) {
     let k1 = k.k1;
     print_line(b"k1 ", &k1);
     print_line(b"aes ", &k.aes_key());
+}
+
+fn main() {
+    let made = session::sub_state(open_session());
+    let console = hold(made.session);
+    let s = console.session;
+    print_keys(s.keys);
     let mut out = [0u8; 64];
     let w = frame::write_datagram(
         s,
@@ -297,4 +444,5 @@ fn main() {
             read_back(&mut out);
         }
     }
+    read_answer_twice(console);
 }

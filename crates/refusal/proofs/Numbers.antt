@@ -53,7 +53,9 @@ table v =
     refusal.InvalidUsername ∷
     refusal.InvalidKgLen ∷
     refusal.PasswordTooLong ∷
-    refusal.TooLongToHash ∷ []
+    refusal.TooLongToHash ∷
+    refusal.AlreadyTaken ∷
+    refusal.TooOld ∷ []
 
 -- the refusal of a number in a list
 abbrev find : ℕ → List Refusal → Refusal
@@ -103,6 +105,8 @@ known refusal.InvalidUsername = refl
 known refusal.InvalidKgLen = refl
 known refusal.PasswordTooLong = refl
 known refusal.TooLongToHash = refl
+known refusal.AlreadyTaken = refl
+known refusal.TooOld = refl
 
 -- two refusals with the same number and value are equal
 pub told-one : (a b : Refusal) → numberOf a ≡ numberOf b → valueOf a ≡ valueOf b → a ≡ b

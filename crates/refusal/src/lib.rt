@@ -41,6 +41,8 @@ pub enum Refusal {
     InvalidKgLen,
     PasswordTooLong,
     TooLongToHash,
+    AlreadyTaken,
+    TooOld,
 }
 
 // Whether a call did what it was asked to, and if not, why.
@@ -92,6 +94,8 @@ impl Refusal {
             Refusal::InvalidKgLen => 35,
             Refusal::PasswordTooLong => 36,
             Refusal::TooLongToHash => 37,
+            Refusal::AlreadyTaken => 38,
+            Refusal::TooOld => 39,
         }
     }
 

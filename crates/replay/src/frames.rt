@@ -34,10 +34,10 @@ fn name_integrity(n: u32) -> Integrity {
 }
 
 // What CONF, INTEG and SIK give, the first three fields.
-struct Given {
-    bad: bool,
-    encrypts: bool,
-    session: SubState,
+pub struct Given {
+    pub bad: bool,
+    pub encrypts: bool,
+    pub session: SubState,
 }
 
 fn make_session(bad: bool, conf: u32, integ: u32, sik: [u8; 20]) -> Given {
@@ -52,7 +52,7 @@ fn make_session(bad: bool, conf: u32, integ: u32, sik: [u8; 20]) -> Given {
     }
 }
 
-fn read_session(line: &[u8]) -> Given {
+pub fn read_session(line: &[u8]) -> Given {
     let c = read_decimal(line, 1, 1);
     let i = read_decimal(line, 2, 1);
     let sik = cases::read_sik(line, 3);
@@ -104,7 +104,7 @@ fn say_unread(
     say_buffer(out, c, lent, left)
 }
 
-// What is told of a packet, which begins at `start` of what the call left; `lent` is what that was before.
+// What is told of a packet by what the call left; `lent` is what that was before.
 fn say_read(out: &mut [u8], c: Cursor, r: Packet, lent: &[u8], left: &[u8]) -> Cursor {
     let read = r.read;
     let a = read.answer;
@@ -125,45 +125,67 @@ fn read_packet(s: SubState, outer: bool, packet: &mut [u8]) -> Read {
     }
 }
 
-// What was read: the packet, as the call left it, ends at `len`, and what was lent stands behind it up to `end`.
-struct Packet {
-    bad: bool,
+// A packet that stands in the buffer twice, so that what a call changed shows: the one lent ends at `len`, the other at `end`.
+pub struct Twice {
+    pub bad: bool,
+    pub len: usize,
+    pub end: usize,
+}
+
+// Puts the packet that the field k says into the buffer twice.
+pub fn put_twice(line: &[u8], k: usize, buf: &mut [u8]) -> Twice {
+    let once = read_bytes(line, k, buf, 0);
+    let again = read_bytes(line, k, buf, once.to);
+    Twice {
+        bad: again.bad,
+        len: once.to,
+        end: again.to,
+    }
+}
+
+// What was read: the packet begins at `start` of what the call left.
+pub struct Packet {
+    pub bad: bool,
     encrypts: bool,
     start: usize,
-    len: usize,
-    end: usize,
+    twice: Twice,
     read: Read,
 }
 
-// Reads the packet of a line, which is put into the buffer twice, so that what the call changed shows.
-fn read_line(line: &[u8], outer: bool, buf: &mut [u8]) -> Packet {
-    let g = read_session(line);
-    let once = read_bytes(line, 4, buf, 0);
-    let again = read_bytes(line, 4, buf, once.to);
-    let s = g.session;
+// What was read of a packet, or of a datagram.
+pub fn make_packet(g: Given, twice: Twice, outer: bool, read: Read) -> Packet {
     Packet {
-        bad: g.bad | again.bad,
+        bad: g.bad | twice.bad,
         encrypts: g.encrypts,
         start: if outer { 4 } else { 0 },
-        len: once.to,
-        end: again.to,
-        read: read_packet(s, outer, lend_part(buf, once.to)),
+        twice,
+        read,
     }
 }
 
-// `read CONF INTEG SIK PACKET` and `datagram CONF INTEG SIK DATAGRAM`.
-pub fn tell_read(line: &[u8], outer: bool, buf: &mut [u8], out: &mut [u8], c: Cursor) -> Cursor {
-    let r = read_line(line, outer, buf);
-    if r.bad {
-        return c;
-    }
+// What is told of a packet that was read out of the buffer.
+pub fn tell_packet(r: Packet, buf: &[u8], out: &mut [u8], c: Cursor) -> Cursor {
+    let t = r.twice;
     say_read(
         out,
         c,
         r,
-        pick_part(buf, r.len, r.end),
-        pick_part(buf, 0, r.len),
+        pick_part(buf, t.len, t.end),
+        pick_part(buf, 0, t.len),
     )
+}
+
+// `read CONF INTEG SIK PACKET` and `datagram CONF INTEG SIK DATAGRAM`.
+pub fn tell_read(line: &[u8], outer: bool, buf: &mut [u8], out: &mut [u8], c: Cursor) -> Cursor {
+    let g = read_session(line);
+    let t = put_twice(line, 4, buf);
+    let s = g.session;
+    let read = read_packet(s, outer, lend_part(buf, t.len));
+    let r = make_packet(g, t, outer, read);
+    if r.bad {
+        return c;
+    }
+    tell_packet(r, buf, out, c)
 }
 
 struct Kind {

@@ -3,6 +3,7 @@
 ghost use mathlib.Core.Path.{_≡_};
 ghost use lib.ListN.{length};
 
+mod arriving;
 mod calls;
 mod ciphers;
 mod frames;

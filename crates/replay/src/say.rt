@@ -17,6 +17,14 @@ pub fn say_blocks(out: &mut [u8], c: Cursor, n: u32) -> Cursor {
     cases::say_number(out, c, b" blocks ", n)
 }
 
+// `; ` before an answer that k others stand before; nothing before the first.
+pub fn part_answers(out: &mut [u8], c: Cursor, k: usize) -> Cursor {
+    if k == 0 {
+        return c;
+    }
+    text::add(out, c, b"; ")
+}
+
 // The answer of a call that wrote a message.
 fn say_answer(a: Outcome, message: &[u8], out: &mut [u8], c: Cursor) -> Cursor {
     match a {

@@ -3,6 +3,7 @@ use crate::calls;
 use crate::calls::Call;
 use crate::calls::Plan;
 use crate::lent::lend_room;
+use crate::say::part_answers;
 use crate::say::say_output;
 use cases::Count;
 use cases::pick_field;
@@ -96,14 +97,6 @@ fn run_call(script: &[u8], at: usize, state: Record, buf: &mut [u8], room: &mut 
         step: d,
         room: n,
     }
-}
-
-// Between two answers.
-fn part_answers(out: &mut [u8], c: Cursor, k: usize) -> Cursor {
-    if k == 0 {
-        return c;
-    }
-    text::add(out, c, b"; ")
 }
 
 // What is told of a call that k others stand before.

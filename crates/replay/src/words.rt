@@ -1,4 +1,5 @@
 // Which case a line is.
+use crate::arriving;
 use crate::ciphers;
 use crate::frames;
 use crate::hashes;
@@ -15,22 +16,25 @@ use text::Cursor;
 enum Case {
     Short(Short),
     Read(bool),
+    Once(bool),
     Write(Writer),
     Steps,
     Script,
     Bad,
 }
 
-// The cases that are one call of the hash, the cipher, or the reader of a block or a message.
+// The cases that are one call of the hash, the cipher, or the reader of a block or a message, or that take numbers of packets.
 enum Short {
     Hash(Summing),
     Block(bool),
     Cbc(bool),
     Keys,
     Received(Received),
+    Arrive,
+    Arrivals,
 }
 
-// How many fields a line has that begins with the word at k, by which the words are in order; any number from 22 on.
+// How many fields a line has that begins with the word at k, by which the words are in order; any number from 25 on.
 fn count_fields(k: usize, n: usize) -> usize {
     if k < 6 {
         return 2;
@@ -38,22 +42,21 @@ fn count_fields(k: usize, n: usize) -> usize {
     if k < 11 {
         return 3;
     }
-    if k < 14 {
+    if k < 15 {
         return 4;
     }
-    if k < 17 {
+    if k < 18 {
         return 5;
     }
-    if k < 22 { count_more(k) } else { n }
+    if k < 25 { count_more(k) } else { n }
 }
 
-// The same of a word from 17 on that has more than five.
+// The same of a word from 18 on that has more than five.
 fn count_more(k: usize) -> usize {
-    match k {
-        17 => 7,
-        18 => 8,
-        _ => 10,
+    if k < 21 {
+        return 7;
     }
+    if k < 22 { 8 } else { 10 }
 }
 
 // The case of the word at k.
@@ -73,16 +76,20 @@ fn name_case(k: usize) -> Case {
         11 => Case::Short(Short::Cbc(false)),
         12 => Case::Short(Short::Cbc(true)),
         13 => Case::Write(Writer::Decline),
-        14 => Case::Read(false),
-        15 => Case::Read(true),
-        16 => Case::Write(Writer::Rakp3),
-        17 => Case::Write(Writer::Rakp1),
-        18 => Case::Write(Writer::OpenRequest),
-        19 => Case::Write(Writer::Packet(false)),
-        20 => Case::Write(Writer::Packet(true)),
-        21 => Case::Steps,
-        22 => Case::Short(Short::Hash(Summing::Pieces)),
-        23 => Case::Script,
+        14 => Case::Short(Short::Arrive),
+        15 => Case::Read(false),
+        16 => Case::Read(true),
+        17 => Case::Write(Writer::Rakp3),
+        18 => Case::Write(Writer::Rakp1),
+        19 => Case::Once(false),
+        20 => Case::Once(true),
+        21 => Case::Write(Writer::OpenRequest),
+        22 => Case::Write(Writer::Packet(false)),
+        23 => Case::Write(Writer::Packet(true)),
+        24 => Case::Steps,
+        25 => Case::Short(Short::Hash(Summing::Pieces)),
+        26 => Case::Short(Short::Arrivals),
+        27 => Case::Script,
         _ => Case::Bad,
     }
 }
@@ -90,8 +97,8 @@ fn name_case(k: usize) -> Case {
 // Which word the line begins with.
 fn find_word(line: &[u8]) -> usize {
     let words =
-        b"sha1 keys block opened rakp2 rakp4 hmac zeros hmac-zeros encrypt decrypt cbc-encrypt cbc-decrypt decline \
-        read datagram rakp3 rakp1 open-request write wrap steps pieces script";
+        b"sha1 keys block opened rakp2 rakp4 hmac zeros hmac-zeros encrypt decrypt cbc-encrypt cbc-decrypt decline arrive \
+        read datagram rakp3 rakp1 once once-datagram open-request write wrap steps pieces arrivals script";
     cases::look_up(words, cases::pick_field(line, 0))
 }
 
@@ -105,7 +112,7 @@ fn find_case(line: &[u8]) -> Case {
     }
 }
 
-// As below, of a case that is one call.
+// As below, of a short case.
 fn tell_short(line: &[u8], which: Short, buf: &mut [u8], out: &mut [u8], c: Cursor) -> Cursor {
     match which {
         Short::Hash(which) => hashes::tell_hash(line, which, buf, out, c),
@@ -113,6 +120,8 @@ fn tell_short(line: &[u8], which: Short, buf: &mut [u8], out: &mut [u8], c: Curs
         Short::Cbc(decrypts) => ciphers::tell_cbc(line, decrypts, buf, out, c),
         Short::Keys => ciphers::tell_keys(line, out, c),
         Short::Received(which) => message_readers::tell_received(line, which, buf, out, c),
+        Short::Arrive => arriving::tell_arrive(line, out, c),
+        Short::Arrivals => arriving::tell_arrivals(line, out, c),
     }
 }
 
@@ -121,6 +130,7 @@ fn tell_case(line: &[u8], buf: &mut [u8], room: &mut [u8], out: &mut [u8], c: Cu
     match find_case(line) {
         Case::Short(which) => tell_short(line, which, buf, out, c),
         Case::Read(outer) => frames::tell_read(line, outer, buf, out, c),
+        Case::Once(outer) => arriving::tell_once(line, outer, buf, out, c),
         Case::Write(which) => writers::tell_written(line, which, buf, room, out, c),
         Case::Steps => steps::tell_steps(line, buf, out, c),
         Case::Script => script::tell_script(line, buf, room, out, c),

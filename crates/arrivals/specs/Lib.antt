@@ -1,0 +1,4 @@
+pub mod Marks
+pub mod Take
+pub mod Promise
+pub mod Many

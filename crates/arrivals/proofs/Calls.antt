@@ -3,7 +3,7 @@
 use Prim.Native.Nat.{ℕ}
 use mathlib.Core.Bool.{true, false}
 use mathlib.Core.List.{List, [], _∷_, map}
-use mathlib.Core.Path.{_≡_, refl, sym, _∙_, ap, ap₂}
+use mathlib.Core.Path.{_≡_, refl, _∙_, ap, ap₂}
 use Rattle.refusal.specs.Call.{Call}
 use Rattle.refusal.specs.Order.{Res, refuse, accept, done}
 use Rattle.refusal.specs.Outcome.{told}
@@ -13,7 +13,7 @@ use Rattle.arrivals.specs.Take.{takeOf, keptBy}
 use Rattle.arrivals.specs.Many.{Barred, afterAll, withTaken, takenOf, highestOf, lastOf}
 use Rattle.arrivals.specs.declared.Arrivals.{Arrivals}
 use Rattle.arrivals.proofs.Many.{never, each-once}
-use Rattle.arrivals.proofs.Counted.{count-taken}
+use Rattle.arrivals.proofs.Counted.{counted}
 use Rattle.arrivals.proofs.Arrivals.new.Kinds as new-kinds
 use Rattle.arrivals.proofs.Arrivals.new.Reads as new-reads
 use Rattle.arrivals.proofs.Arrivals.take.Kinds as take-kinds
@@ -73,9 +73,7 @@ pub calls-counted : (m : NewCall) (cs : List TakeCall) (r : Arrivals) → Taking
     → c .answer ≡ lastOf (highestOf (numbersTaken cs)) (numbersTaken cs)
 calls-counted m cs r t c e =
     let w = calls-take (m .answer) cs r t in
-    c .kept ∙ ap countOf (e ∙ w .1 ∙ ap (λ (x : Arrivals). afterAll x (numbersOf cs)) (m .kept))
-    ∙ count-taken (numbersOf cs)
-    ∙ ap (λ (ts : List ℕ). lastOf (highestOf ts) ts) (sym (w .0 ∙ ap (λ (x : Arrivals). takenOf x (numbersOf cs)) (m .kept)))
+    c .kept ∙ ap countOf e ∙ counted (m .answer) (m .kept) (numbersTaken cs) (numbersOf cs) r (w .0) (w .1)
 
 -- what the first record marks, or what is too old for it, is taken by no call
 pub calls-never : (a : Arrivals) (cs : List TakeCall) (r : Arrivals) → Taking a cs r → (m : ℕ) → Barred a m → among m (numbersTaken cs) ≡ false

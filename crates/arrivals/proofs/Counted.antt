@@ -11,6 +11,7 @@ use lib.Dec.{eqb, leb, ltb}
 use borrow.Author.Tests.{eqb-true, eqb-false, eq-eqb, ne-eqb, le-leb, lt-leb, lt-ltb, le-ltb, not-true}
 use Rattle.refusal.specs.Order.{Res, refuse, accept}
 use Rattle.refusal.specs.Table.{among, unrepeated}
+use Rattle.octets.proofs.Equal.{and-inv}
 use Rattle.octets.proofs.Order.{lt-or-le}
 use Rattle.arrivals.specs.Marks.{markOf, movedUp, countBelow, countOf, marked}
 use Rattle.arrivals.specs.Take.{fresh, tooOld, taken, takeOf, keptBy}
@@ -202,10 +203,6 @@ or-none : (a b : Bool) → (a || b) ≡ false → (a ≡ false) × (b ≡ false)
 or-none true b e = absurd (true≢false e)
 or-none false b e = (refl, e)
 
-and-both : (a b : Bool) → (a && b) ≡ true → (a ≡ true) × (b ≡ true)
-and-both true b e = (refl, e)
-and-both false b e = absurd (true≢false (sym e))
-
 -- numbers of which none is repeated lie at as many places as they are
 apart : (x k h : ℕ) (xs : List ℕ) → among x xs ≡ false → x + k ≡ h → lies k h xs ≡ false
 apart x k h [] n e = refl
@@ -221,7 +218,7 @@ count-lies h [] u b = none 32
     none zero = refl
     none (suc w) = omega (arith, none w)
 count-lies h (x ∷ xs) u b =
-    let m = and-both (not (among x xs)) (unrepeated xs) u in
+    let m = and-inv (not (among x xs)) (unrepeated xs) u in
     let l : x ≤ h = omega (arith, b, le-max-left x (highestOf xs)) in
     count-or (λ k. eqb (x + k) h) (λ k. lies k h xs) 32 (λ k e. apart x k h xs (not-true (among x xs) (m .0)) (eqb-true (x + k) h e))
     ∙ ap₂ _+_ (count-one x h 32 l ∙ ap (λ (b : Bool). cond b 1 0) (near l)) (count-lies h xs (m .1) (omega (arith, b, le-max-right x (highestOf xs))))
@@ -237,3 +234,9 @@ count-taken ns =
     let s = says ns in
     count-agree _ _ 32 (s .marks) ∙ count-lies _ (takenOf fresh ns) (each-once fresh ns) (le-of-eq (sym (s .highest)))
     ∙ ap (λ (h : ℕ). lastOf h (takenOf fresh ns)) (s .highest)
+
+-- so is that of any record that some numbers leave of a new one
+pub counted : (a : Arrivals) → a ≡ fresh → (ts ns : List ℕ) (r : Arrivals) → ts ≡ takenOf a ns → r ≡ afterAll a ns → countOf r ≡ lastOf (highestOf ts) ts
+counted a n ts ns r e f =
+    ap countOf (f ∙ ap (λ (x : Arrivals). afterAll x ns) n) ∙ count-taken ns
+    ∙ ap (λ (xs : List ℕ). lastOf (highestOf xs) xs) (sym (e ∙ ap (λ (x : Arrivals). takenOf x ns) n))

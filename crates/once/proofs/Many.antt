@@ -16,7 +16,7 @@ use Rattle.arrivals.specs.Take.{keptBy}
 use Rattle.arrivals.specs.Many.{Barred, afterAll, withTaken, takenOf, highestOf, lastOf}
 use Rattle.arrivals.specs.declared.Arrivals.{Arrivals}
 use Rattle.arrivals.proofs.Many.{never, each-once}
-use Rattle.arrivals.proofs.Counted.{count-taken}
+use Rattle.arrivals.proofs.Counted.{counted}
 use Rattle.arrivals.proofs.Calls.{NewCall, CountCall}
 use Rattle.once.specs.Guard.{guard, recordAfter}
 use Rattle.once.specs.Promise.{OncePromise}
@@ -131,6 +131,4 @@ pub packets-counted : (m : NewCall) (cs : List OnceAny) (r : Arrivals) → Readi
     → c .answer ≡ lastOf (highestOf (numbersRead cs)) (numbersRead cs)
 packets-counted m cs r t c e =
     let w = takes (m .answer) cs r t in
-    c .kept ∙ ap countOf (e ∙ w .after ∙ ap (λ (x : Arrivals). afterAll x (w .numbers)) (m .kept))
-    ∙ count-taken (w .numbers)
-    ∙ ap (λ (ts : List ℕ). lastOf (highestOf ts) ts) (sym (w .taken-of ∙ ap (λ (x : Arrivals). takenOf x (w .numbers)) (m .kept)))
+    c .kept ∙ ap countOf e ∙ counted (m .answer) (m .kept) (numbersRead cs) (w .numbers) r (w .taken-of) (w .after)

@@ -105,14 +105,14 @@ def third_messages(d):
 
 
 def whole(d, verb):
-    """A message that is taken; what no rule fixes is drawn."""
+    """A message that is taken; what no rule fixes is drawn, but for message 2's byte 2, where the Rust reads a status."""
     r = d.bytes(12)
     if verb == "opened":
         codes = (r[0] % 4, r[1] % 5, r[2] % 4)
         blocks = b"".join(bytes([k, r[3], r[4], 8, code, r[5], r[6], r[7]]) for k, code in enumerate(codes))
         return bytes([r[8], 0, 1 + r[9] % 5, r[10]]) + d.bytes(3) + b"\x01" + d.bytes(3) + b"\x02" + blocks
     if verb == "rakp2":
-        return bytes([r[8], r[9], 0, r[10]]) + d.bytes(3) + b"\x01" + d.bytes(32 + r[11] % 40)
+        return bytes([r[8], 0, 0, r[10]]) + d.bytes(3) + b"\x01" + d.bytes(32 + r[11] % 40)
     return bytes([r[8], 0, r[9], r[10]]) + d.bytes(3) + b"\x01" + d.bytes(r[11] % 40)
 
 
@@ -120,19 +120,19 @@ def at(text, place, *some):
     return text[:place] + bytes(some) + text[place + len(some):]
 
 
-STATUS_AT = {"opened": 1, "rakp2": 2, "rakp4": 1}
+READERS = ("opened", "rakp2", "rakp4")
 
 
 def readings(d):
     """Every length, every status in messages of every length that matters, every value of every byte of a head, ids of zero."""
-    for verb, place in STATUS_AT.items():
+    for verb in READERS:
         for n in range(121):
             for text in (whole(d, verb) + d.bytes(121), bytes(121), d.bytes(121)):
                 yield line(verb, text[:n])
         for n in (1000, 65535, 69999, 131072):
             yield line(verb, whole(d, verb) + d.bytes(n))
         for status in range(256):
-            text = at(whole(d, verb) + d.bytes(80), place, status)
+            text = at(whole(d, verb) + d.bytes(80), 1, status)
             for n in (2, 3, 4, 7, 8, 35, 36, 37, 39, 40, 41, 60):
                 yield line(verb, text[:n])
         for byte in range(256):
@@ -199,7 +199,7 @@ def message_lines(d):
         yield rakp1(rm=bytes(n))
     yield rakp3(code=d.bytes(250000), room=70000)
     yield rakp1(name=b"n" * 250000)
-    for verb in STATUS_AT:
+    for verb in READERS:
         yield line(verb, whole(d, verb) + d.bytes(260000))
 
 

@@ -6,7 +6,8 @@ ORDER = ("kg", "level", "name", "password", "own", "rm", "opened", "m2", "m4")
 
 
 def good(d, **chosen):
-    """The fields of an exchange that opens a session; what is chosen is taken, the rest is drawn or follows."""
+    """The fields of an exchange that opens a session; what is chosen is taken, the rest is drawn or follows. Message 2 has zeros at 1,
+    where its status is, and at 2, where the Rust reads one."""
     e = dict(kg=d.bytes(20) if d.below(2) else b"", level=d.one((None, 1, 2, 3, 4, 5)), own=1 + d.below(2 ** 32 - 1),
              rm=d.bytes(16), rc=d.bytes(16), guid=d.bytes(16), password=d.bytes(d.below(24)), system=d.bytes(3) + b"\x01",
              name=bytes(33 + b % 94 for b in d.bytes(d.below(20))), auth=1, integ=d.below(2), conf=d.below(2), codelen=20)
@@ -18,7 +19,7 @@ def good(d, **chosen):
                       for k, code in enumerate((e["auth"], e["integ"], e["conf"])))
     e["opened"] = bytes([0, 0, e["level"] or 4, r[19]]) + own + e["system"] + blocks
     code = hmac(e["password"], own + e["system"] + e["rm"] + e["rc"] + e["guid"] + n)
-    e["m2"] = b"\x0d" + r[18:19] + b"\0" + r[17:18] + own + e["rc"] + e["guid"] + (code + bytes(64))[:e["codelen"]]
+    e["m2"] = b"\x0d\0\0" + r[17:18] + own + e["rc"] + e["guid"] + (code + bytes(64))[:e["codelen"]]
     sik = hmac(e["kg"] if len(e["kg"]) == 20 else e["password"], e["rm"] + e["rc"] + n)
     e["m4"] = b"\x0a\0" + r[15:17] + own + hmac(sik, e["rm"] + e["system"] + e["guid"])[:12]
     return e
@@ -61,15 +62,15 @@ def exchanges(d):
 
 def statuses(d):
     """Every status at its place in each answer, in the shortest message that has one and in a whole one."""
-    for place, message in ((1, "opened"), (2, "m2"), (1, "m4")):
+    for place, message in ((1, "opened"), (1, "m2"), (1, "m4")):
         for status in range(256):
             e = good(d)
             whole = at(e[message], place, status)
             for text in (whole, whole[:4], whole[:2]):
                 yield steps(e, **{message: text})
-    for status in range(256):                  # message 2's status is read at offset 2 and nowhere else
+    for status in range(256):                  # message 2's byte 2, where the Rust reads a status, is not read
         e = good(d)
-        yield steps(e, m2=at(e["m2"], 1, status))
+        yield steps(e, m2=at(e["m2"], 2, status))
 
 
 def lengths(d):
@@ -133,7 +134,7 @@ FAULTS = {
     "opened": [lambda t: t[:1], lambda t: t[:35], lambda t: t + b"x", put(1, 1), put(1, 0x77), put(2, 0), put(4, 0, 0, 0, 0),
                put(8, 0, 0, 0, 0), put(0, 9), put(4, 1, 2, 3, 4)]
     + [put(at + more, byte) for at in (12, 20, 28) for more, byte in ((3, 7), (4, 99), (4, 2), (4, 0), (0, 9), (0, at % 3))],
-    "m2": [lambda t: t[:3], lambda t: t[:39], lambda t: t[:59], lambda t: t + b"x", put(2, 1), put(2, 0x77), put(4, 0, 0, 0, 0),
+    "m2": [lambda t: t[:3], lambda t: t[:39], lambda t: t[:59], lambda t: t + b"x", put(1, 1), put(1, 0x77), put(4, 0, 0, 0, 0),
            put(0, 9), put(4, 1, 2, 3, 4), lambda t: t[:-1] + bytes([t[-1] ^ 1])],
     "m4": [lambda t: t[:3], lambda t: t[:7], lambda t: t[:19], lambda t: t + b"x", put(1, 1), put(1, 0x77), put(4, 0, 0, 0, 0),
            put(0, 9), put(4, 1, 2, 3, 4), lambda t: t[:-1] + bytes([t[-1] ^ 1])],

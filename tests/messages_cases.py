@@ -5,7 +5,7 @@ the program. `tests/messages_cases.py | diff - crates/messages_cases/stdout` sho
 
 COMMON = [0x01, 0x02, 0x12]
 NAMES_OPEN = [0x03, 0x04, 0x05, 0x06, 0x07, 0x09, 0x10, 0x11]
-NAMES_2 = [0x03, 0x09, 0x0A, 0x0B, 0x0C, 0x0D]
+NAMES_2 = [0x08, 0x09, 0x0A, 0x0B, 0x0C, 0x0D]
 NAMES_4 = [0x08, 0x0F]
 HIGHEST = {0: 3, 1: 4, 2: 3}          # the last known code of each type of block
 
@@ -45,7 +45,7 @@ def open_response(m):
 
 def message_2(m):
     need(len(m) >= 4, 1)
-    status(m[2], NAMES_2)
+    status(m[1], NAMES_2)
     need(len(m) >= 40, 1)
     need(number(m[4:8]) != 0, 20)
     return m[0], number(m[4:8]), m[8:24], m[24:40], (40, len(m) - 40)
@@ -160,7 +160,7 @@ def rust_cases():
 
 def rows():
     byte("open response, status", "open", 1)
-    byte("message 2, status", "2", 2)
+    byte("message 2, status", "2", 1)
     byte("message 4, status", "4", 1)
     length("open response, length", "open")
     length("message 2, length", "2")
@@ -177,10 +177,9 @@ def rows():
     room("message 3 declining, room", DECLINED)
     for at in (3, 13, 14, 25, 35):
         byte("open response, byte %d" % at, "open", at)
-    for at in (1, 3):
-        byte("message 2, byte %d" % at, "2", at)
-    for at in (2, 3):
-        byte("message 4, byte %d" % at, "4", at)
+    for message in ("2", "4"):
+        for at in (2, 3):
+            byte("message %s, byte %d" % (message, at), message, at)
     for at in (1, 2, 5, 6, 7):
         byte("block, byte %d" % at, 1, at)
     byte("block, type", 1, 0)

@@ -10,8 +10,9 @@ OUTER = bytes.fromhex("0600ff07")
 TYPES = (0, 1, 16, 17, 18, 19, 20, 21)
 COMMON = {0x01, 0x02, 0x12}
 NAMED_OPEN = COMMON | {3, 4, 5, 6, 7, 9, 0x10, 0x11}
-NAMED_M2 = COMMON | {3, 9, 0x0A, 0x0B, 0x0C, 0x0D}
+NAMED_M2 = COMMON | {8, 9, 0x0A, 0x0B, 0x0C, 0x0D}
 NAMED_M4 = COMMON | {8, 0x0F}
+STATUS_AT_M2 = 1
 
 
 class Refused(Exception):
@@ -200,7 +201,7 @@ def response(data):
 def message_2(data):
     """RC, the GUID and the code."""
     need(len(data) >= 4, 1)
-    status(data[2], NAMED_M2)
+    status(data[STATUS_AT_M2], NAMED_M2)
     need(len(data) >= 40, 1)
     need(any(data[4:8]), 20)
     return data[8:24], data[24:40], data[40:]

@@ -44,13 +44,13 @@ pub found-2 : (m : List ℕ) (f : RakpMessage2) → message2 m ≡ accept f → 
 unfolding message2
 found-2 m f e =
     let h = then-inv _ _ f e in
-    (sym (accept-inj _ _ (h .2)), checked-size _ _ 40 _ _ m (h .1))
+    (sym (accept-inj _ _ (h .2)), checked-size _ 40 _ _ m (h .1))
 
 pub found-4 : (m : List ℕ) (f : RakpMessage4) → message4 m ≡ accept f → (f ≡ fields4 m) × (8 ≤ length m)
 unfolding message4
 found-4 m f e =
     let h = then-inv _ _ f e in
-    (sym (accept-inj _ _ (h .2)), checked-size _ _ 8 _ _ m (h .1))
+    (sym (accept-inj _ _ (h .2)), checked-size _ 8 _ _ m (h .1))
 
 pub found-open : (m : List ℕ) (f : Response) → openResponse m ≡ accept f → length m ≡ 36
 unfolding openResponse openChecked

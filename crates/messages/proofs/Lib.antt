@@ -8,3 +8,4 @@ pub mod Codes
 pub mod Only
 pub mod Inverse
 pub mod Answered
+pub mod Statuses

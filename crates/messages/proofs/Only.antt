@@ -76,7 +76,7 @@ name-one R a b p q =
 abbrev answered : Outcome → RakpMessage2 → RakpAnswer2
 answered t m = record { answer = t; message = m }
 
-two-one : (R : Res RakpMessage2) (a b : RakpAnswer2) → ReadPromise2 R a → ReadPromise2 R b → a ≡ b
+pub two-one : (R : Res RakpMessage2) (a b : RakpAnswer2) → ReadPromise2 R a → ReadPromise2 R b → a ≡ b
 two-one R a b p q =
     ap₂ answered (outcome-one (a .answer) (b .answer) (p .answer ∙ sym (q .answer))) (p .message ∙ sym (q .message))
 

@@ -9,7 +9,7 @@ use Rattle.refusal.specs.Table.{numberOf, valueOf}
 use Rattle.refusal.specs.declared.Refusal.{Refusal}
 use Rattle.refusal.proofs.Order.{need-inv, then-refuse, then-accept}
 use Rattle.messages.specs.Status.{names2, names4}
-use Rattle.messages.specs.Rakp.{checked, statusAt2, fields2, none2, message2, fields4, message4}
+use Rattle.messages.specs.Rakp.{checked, fields2, none2, message2, fields4, message4}
 use Rattle.refusal.specs.Outcome.{told}
 use Rattle.messages.specs.Promises.{held2, ReadPromise2}
 use Rattle.refusal.specs.declared.Outcome.{Outcome}
@@ -25,16 +25,16 @@ pub test-refused : (t : Outcome) (R : Res Unit) (r : Refusal) → told t ≡ R �
 test-refused t R r e g = sym e ∙ ap told g
 
 -- what the tests have shown of the length
-pub checked-size : (at : ℕ) (names : List ℕ) (fixed n v : ℕ) (m : List ℕ) → checked at names fixed n v m ≡ accept tt → fixed ≤ length m
+pub checked-size : (names : List ℕ) (fixed n v : ℕ) (m : List ℕ) → checked names fixed n v m ≡ accept tt → fixed ≤ length m
 unfolding checked
-checked-size at names fixed n v m e =
+checked-size names fixed n v m e =
     let a = need-inv _ _ _ _ e in
     let b = need-inv _ _ _ _ (a .1) in
     let d = need-inv _ _ _ _ (b .1) in
     leb-true _ _ (d .0)
 
 module _ (m : List ℕ) (t : Outcome) where
-  module _ (e : told t ≡ checked statusAt2 names2 40 20 0 m) where
+  module _ (e : told t ≡ checked names2 40 20 0 m) where
     pub read2-no : (r : Refusal) (x : RakpMessage2) → t ≡ Refused r → x ≡ none2
         → ReadPromise2 (message2 m) (record { answer = Refused r; message = x })
     unfolding message2
@@ -49,7 +49,7 @@ module _ (m : List ℕ) (t : Outcome) where
         let h : message2 m ≡ accept (fields2 m) = then-accept _ _ _ (test-passed t _ e g) in
         record { answer = sym (ap done h); message = z ∙ sym (ap held2 h) }
 
-  module _ (e : told t ≡ checked 1 names4 8 21 0 m) where
+  module _ (e : told t ≡ checked names4 8 21 0 m) where
     pub read4-no : (r : Refusal) → t ≡ Refused r → refuse (numberOf r) (valueOf r) ≡ message4 m
     unfolding message4
     read4-no r g = sym (then-refuse _ _ _ _ (test-refused t _ r e g))

@@ -62,23 +62,23 @@ pub refuse-as : {A : Type 0} (n v k w : ℕ) (r : Res A) → n ≡ k → v ≡ w
 refuse-as n v k w r e f g = rw (e, f) g
 
 -- the tests of messages 2 and 4
-module _ (at : ℕ) (names : List ℕ) (fixed n v : ℕ) (m : List ℕ) where
-  pub checked-short : length m < 4 → refuse 1 0 ≡ checked at names fixed n v m
+module _ (names : List ℕ) (fixed n v : ℕ) (m : List ℕ) where
+  pub checked-short : length m < 4 → refuse 1 0 ≡ checked names fixed n v m
   unfolding checked
   checked-short h = sym (need-no _ _ _ _ (lt-leb 4 _ h))
 
-  pub checked-status : 4 ≤ length m → (getD m at 0 ≡ 0 → ⊥)
-      → refuse (statusNumber names (getD m at 0)) (getD m at 0) ≡ checked at names fixed n v m
+  pub checked-status : 4 ≤ length m → (getD m 1 0 ≡ 0 → ⊥)
+      → refuse (statusNumber names (getD m 1 0)) (getD m 1 0) ≡ checked names fixed n v m
   unfolding checked
   checked-status h g = sym (pass _ _ _ _ (le-leb 4 _ h) (need-no _ _ _ _ (ne-eqb _ 0 g)))
 
-  module _ (h : 4 ≤ length m) (g : getD m at 0 ≡ 0) where
-    pub checked-fixed : length m < fixed → refuse 1 0 ≡ checked at names fixed n v m
+  module _ (h : 4 ≤ length m) (g : getD m 1 0 ≡ 0) where
+    pub checked-fixed : length m < fixed → refuse 1 0 ≡ checked names fixed n v m
     unfolding checked
     checked-fixed k =
         sym (pass _ _ _ _ (le-leb 4 _ h) (pass _ _ _ _ (eq-eqb _ 0 g) (need-no _ _ _ _ (lt-leb fixed _ k))))
 
-    pub checked-zero : fixed ≤ length m → unle (part m 4 4) ≡ 0 → refuse n v ≡ checked at names fixed n v m
+    pub checked-zero : fixed ≤ length m → unle (part m 4 4) ≡ 0 → refuse n v ≡ checked names fixed n v m
     unfolding checked
     checked-zero k z =
         sym
@@ -86,7 +86,7 @@ module _ (at : ℕ) (names : List ℕ) (fixed n v : ℕ) (m : List ℕ) where
         (pass _ _ _ _ (eq-eqb _ 0 g)
         (pass _ _ _ _ (le-leb fixed _ k) (need-no _ _ _ _ (ap not (eq-eqb _ 0 z))))))
 
-    pub checked-passed : fixed ≤ length m → (unle (part m 4 4) ≡ 0 → ⊥) → accept tt ≡ checked at names fixed n v m
+    pub checked-passed : fixed ≤ length m → (unle (part m 4 4) ≡ 0 → ⊥) → accept tt ≡ checked names fixed n v m
     unfolding checked
     checked-passed k z =
         sym

@@ -14,18 +14,14 @@ use Rattle.messages.specs.declared.«rakp_2».RakpMessage2.{RakpMessage2
 use Rattle.messages.specs.declared.«rakp_3».RakpMessage3.{RakpMessage3}
 use Rattle.messages.specs.declared.«rakp_4».RakpMessage4.{RakpMessage4}
 
--- messages 2 and 4: under 4 bytes 1; the status; under the fixed part's bytes 1; the id at 4 zero
-unfoldable pub checked : ℕ → List ℕ → ℕ → ℕ → ℕ → List ℕ → Res Unit
-checked at names fixed number value m =
+-- messages 2 and 4: under 4 bytes 1; the status at 1, then two reserved bytes; under the fixed part's bytes 1; the id at 4 zero
+unfoldable pub checked : List ℕ → ℕ → ℕ → ℕ → List ℕ → Res Unit
+checked names fixed number value m =
     need (leb 4 (length m)) 1 0
-    (need (eqb (getD m at 0) 0) (statusNumber names (getD m at 0)) (getD m at 0)
+    (need (eqb (getD m 1 0) 0) (statusNumber names (getD m 1 0)) (getD m 1 0)
     (need (leb fixed (length m)) 1 0
     (need (not (eqb (unle (part m 4 4)) 0)) number value
     (accept tt))))
-
--- message 2's status stands here, as the Rust reads it
-abbrev pub statusAt2 : ℕ
-statusAt2 = 2
 
 -- where message 2's code begins: the length of its fixed part
 abbrev pub codeAt2 : ℕ
@@ -47,7 +43,7 @@ fields2 m =
     }
 
 unfoldable pub message2 : List ℕ → Res RakpMessage2
-message2 m = andThen (checked statusAt2 names2 codeAt2 20 0 m) (λ _. accept (fields2 m))
+message2 m = andThen (checked names2 codeAt2 20 0 m) (λ _. accept (fields2 m))
 
 -- what a refused message 2 hands out
 unfoldable pub none2 : RakpMessage2
@@ -65,7 +61,7 @@ unfoldable pub fields4 : List ℕ → RakpMessage4
 fields4 m = record { tag = getD m 0 0; id = unle (part m 4 4); value = record { at = valueAt4; len = length m - valueAt4 } }
 
 unfoldable pub message4 : List ℕ → Res RakpMessage4
-message4 m = andThen (checked 1 names4 valueAt4 21 0 m) (λ _. accept (fields4 m))
+message4 m = andThen (checked names4 valueAt4 21 0 m) (λ _. accept (fields4 m))
 
 -- message 1: tag, three zeros, system id, the console's random number, role, two zeros, the name's length, the name
 unfoldable pub message1 : RakpMessage1 → List ℕ

@@ -1,6 +1,5 @@
 // What the messages have in common: their answers, statuses with a name, the first eight bytes.
 ghost use mathlib.Core.Path.{_≡_};
-ghost use Prim.Native.Nat.{_<_};
 ghost use mathlib.Core.List.{_∷_};
 ghost use Rattle.refusal.specs.Table.{numberOf, valueOf, among};
 ghost use Rattle.octets.specs.Number.{le};
@@ -56,20 +55,13 @@ pub(crate) fn refuse_status(status: u8, names: &[u8]) -> Refusal
 }
 
 // The tests of messages 2 and 4 on what stands in front: the length, the status, the fixed part's length, the id.
-pub(crate) fn check_head(
-    message: &[u8],
-    at: usize,
-    names: &[u8],
-    fixed: usize,
-    zero: Refusal,
-) -> Outcome
-    requires { ⌜ at < 4 ⌝ }
-    ensures { λ r. ⌜ told r ≡ checked at (now (names .entry)) fixed (numberOf zero) (valueOf zero) (now (message .entry)) ⌝ }
+pub(crate) fn check_head(message: &[u8], names: &[u8], fixed: usize, zero: Refusal) -> Outcome
+    ensures { λ r. ⌜ told r ≡ checked (now (names .entry)) fixed (numberOf zero) (valueOf zero) (now (message .entry)) ⌝ }
 {
     if message.len() < 4 {
         return Outcome::Refused(Refusal::NotEnoughData);
     }
-    let status = message[at];
+    let status = message[1];
     if status != 0 {
         return Outcome::Refused(refuse_status(status, names));
     }

@@ -9,12 +9,10 @@ use crate::rakp::Place;
 use refusal::Outcome;
 use refusal::Refusal;
 
-// Where the status stands, where the code begins, and the statuses that have a name here besides the common ones.
-const STATUS_AT: usize = 2;
-
+// Where the code begins, and the statuses that have a name here besides the common ones.
 const CODE_AT: usize = 40;
 
-const NAMES: [u8; 6] = [0x03, 0x09, 0x0a, 0x0b, 0x0c, 0x0d];
+const NAMES: [u8; 6] = [0x08, 0x09, 0x0a, 0x0b, 0x0c, 0x0d];
 
 pub struct RakpMessage2 {
     pub tag: u8,
@@ -68,7 +66,6 @@ impl RakpMessage2 {
     {
         match rakp::check_head(
             message,
-            STATUS_AT,
             &NAMES,
             CODE_AT,
             Refusal::ZeroRemoteConsoleSessionId,

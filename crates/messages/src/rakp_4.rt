@@ -7,9 +7,7 @@ use crate::rakp::Place;
 use refusal::Outcome;
 use refusal::Refusal;
 
-// Where the status stands, where the check value begins, and the statuses that have a name here besides the common ones.
-const STATUS_AT: usize = 1;
-
+// Where the check value begins, and the statuses that have a name here besides the common ones.
 const VALUE_AT: usize = 8;
 
 const NAMES: [u8; 2] = [0x08, 0x0f];
@@ -31,7 +29,6 @@ impl RakpMessage4 {
     {
         match rakp::check_head(
             message,
-            STATUS_AT,
             &NAMES,
             VALUE_AT,
             Refusal::ZeroManagedSystemSessionId,

@@ -15,7 +15,7 @@ fn show_rust_cases() {
 
 fn show_statuses() {
     show_line(b"open response, status", readers::OPEN, 1, 255);
-    show_line(b"message 2, status", readers::MESSAGE_2, 2, 255);
+    show_line(b"message 2, status", readers::MESSAGE_2, 1, 255);
     show_line(b"message 4, status", readers::MESSAGE_4, 1, 255);
 }
 
@@ -61,7 +61,7 @@ fn show_reserved() {
     show_line(b"open response, byte 14", readers::OPEN, 14, 255);
     show_line(b"open response, byte 25", readers::OPEN, 25, 255);
     show_line(b"open response, byte 35", readers::OPEN, 35, 255);
-    show_line(b"message 2, byte 1", readers::MESSAGE_2, 1, 255);
+    show_line(b"message 2, byte 2", readers::MESSAGE_2, 2, 255);
     show_line(b"message 2, byte 3", readers::MESSAGE_2, 3, 255);
     show_line(b"message 4, byte 2", readers::MESSAGE_4, 2, 255);
     show_line(b"message 4, byte 3", readers::MESSAGE_4, 3, 255);

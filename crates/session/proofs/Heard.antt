@@ -108,7 +108,7 @@ module _ (tag own : ℕ) (rc guid code : List ℕ) (a : own < 2 ^ 32) (b : own �
   two-heard =
       let n = two-length in
       let x = id-back own a in
-      then-accept _ _ tt (sym (checked-passed 2 _ 40 20 0 two (omega arith) refl (omega arith) (λ z. b (sym x ∙ z)))) ∙ ap accept two-fields
+      then-accept _ _ tt (sym (checked-passed _ 40 20 0 two (omega arith) refl (omega arith) (λ z. b (sym x ∙ z)))) ∙ ap accept two-fields
 
 -- message 4
 abbrev pub fourBytes : ℕ → ℕ → List ℕ → List ℕ
@@ -123,7 +123,7 @@ unfolding message4 fields4
 four-heard tag own value a b =
     let x = id-back own a in
     let m : List ℕ = fourBytes tag own value in
-    then-accept _ _ tt (sym (checked-passed 1 _ 8 21 0 m (omega arith) refl (omega arith) (λ z. b (sym x ∙ z))))
+    then-accept _ _ tt (sym (checked-passed _ 8 21 0 m (omega arith) refl (omega arith) (λ z. b (sym x ∙ z))))
     ∙ rw x
 
 -- what the system reads: the request, which it takes

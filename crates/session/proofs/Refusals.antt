@@ -80,9 +80,9 @@ heard-open-shuts s m =
     (only-need Shuts _ _ _ _ (refl, refl) (only-need Shuts _ _ _ _ (refl, refl) (only-accept Shuts _))))
 
 -- the common head of messages 2 and 4, whichever id it must not find zero
-head-shuts : (at : ℕ) (names : List ℕ) (fixed n v : ℕ) (m : List ℕ) → Shuts n → Only Shuts (checked at names fixed n v m)
+head-shuts : (names : List ℕ) (fixed n v : ℕ) (m : List ℕ) → Shuts n → Only Shuts (checked names fixed n v m)
 unfolding checked
-head-shuts at names fixed n v m h =
+head-shuts names fixed n v m h =
     only-need Shuts _ _ _ _ (refl, refl)
     (only-need Shuts _ _ _ _ (status-shuts _ _)
     (only-need Shuts _ _ _ _ (refl, refl) (only-need Shuts _ _ _ _ h (only-accept Shuts _))))
@@ -91,7 +91,7 @@ pub heard-two-shuts : (s : Record) (m : List ℕ) → Only Shuts (heardTwo s m)
 unfolding heardTwo message2
 heard-two-shuts s m =
     only-then Shuts _ _
-    (only-then Shuts _ _ (head-shuts _ _ _ _ _ m (refl, refl)) (λ _. only-accept Shuts _))
+    (only-then Shuts _ _ (head-shuts _ _ _ _ m (refl, refl)) (λ _. only-accept Shuts _))
     (λ f.
     only-need Shuts _ _ _ _ (refl, refl)
     (only-need Shuts _ _ _ _ (refl, refl) (only-need Shuts _ _ _ _ (refl, refl) (only-accept Shuts _))))
@@ -100,7 +100,7 @@ pub heard-four-shuts : (s : Record) (m : List ℕ) → Only Shuts (heardFour s m
 unfolding heardFour message4
 heard-four-shuts s m =
     only-then Shuts _ _
-    (only-then Shuts _ _ (head-shuts _ _ _ _ _ m (refl, refl)) (λ _. only-accept Shuts _))
+    (only-then Shuts _ _ (head-shuts _ _ _ _ m (refl, refl)) (λ _. only-accept Shuts _))
     (λ f.
     only-need Shuts _ _ _ _ (refl, refl)
     (only-need Shuts _ _ _ _ (refl, refl) (only-need Shuts _ _ _ _ (refl, refl) (only-accept Shuts _))))

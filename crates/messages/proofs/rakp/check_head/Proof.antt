@@ -10,7 +10,7 @@ use Rattle.messages.proofs.rakp.check_head.Tie as tie
 returns : tie.Need-returns
 returns c =
     let a = c .before .before .before .args in
-    checked-short (a .at) (a .names .now) (a .fixed) (numberOf (a .zero)) (valueOf (a .zero)) (a .message .now)
+    checked-short (a .names .now) (a .fixed) (numberOf (a .zero)) (valueOf (a .zero)) (a .message .now)
     (omega arith)
 
 returns-2 : tie.Need-returns-2
@@ -18,26 +18,26 @@ returns-2 c =
     let a = c .before .before .before .before .before .before .args in
     let if2 = c .before .if2 in
     refuse-as _ _ _ _ _ (c .refuse-status .ensures .0) (c .refuse-status .ensures .1)
-    (checked-status (a .at) (a .names .now) (a .fixed) (numberOf (a .zero)) (valueOf (a .zero)) (a .message .now)
+    (checked-status (a .names .now) (a .fixed) (numberOf (a .zero)) (valueOf (a .zero)) (a .message .now)
     (omega arith) (if2 .taken))
 
 returns-3 : tie.Need-returns-3
 returns-3 c =
     let a = c .before .before .before .before .before .before .args in
-    checked-fixed (a .at) (a .names .now) (a .fixed) (numberOf (a .zero)) (valueOf (a .zero)) (a .message .now)
+    checked-fixed (a .names .now) (a .fixed) (numberOf (a .zero)) (valueOf (a .zero)) (a .message .now)
     (omega arith) (c .before .if2 .left) (omega arith)
 
 returns-4 : tie.Need-returns-4
 returns-4 c =
     let a = c .before .before .before .before .before .before .before .before .args in
-    checked-zero (a .at) (a .names .now) (a .fixed) (numberOf (a .zero)) (valueOf (a .zero)) (a .message .now)
+    checked-zero (a .names .now) (a .fixed) (numberOf (a .zero)) (valueOf (a .zero)) (a .message .now)
     (omega arith) (c .before .before .before .if2 .left) (omega arith)
     (sym (c .before .load-le4 .ensures) ∙ c .if4 .taken)
 
 returns-5 : tie.Need-returns-5
 returns-5 c =
     let a = c .before .before .before .before .before .before .before .before .args in
-    checked-passed (a .at) (a .names .now) (a .fixed) (numberOf (a .zero)) (valueOf (a .zero)) (a .message .now)
+    checked-passed (a .names .now) (a .fixed) (numberOf (a .zero)) (valueOf (a .zero)) (a .message .now)
     (omega arith) (c .before .before .before .if2 .left) (omega arith)
     (λ z. c .if4 .left (c .before .load-le4 .ensures ∙ z))
 

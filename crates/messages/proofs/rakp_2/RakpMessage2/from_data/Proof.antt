@@ -1,5 +1,4 @@
 -- `RakpMessage2::from_data` keeps its promise: the tests, then the fields.
-use Rattle.messages.specs.Status.{names2}
 use Rattle.messages.proofs.Reading.{test-passed, checked-size, read2-no, read2-yes}
 use borrow.Author.Needs.{needs}
 use Rattle.messages.proofs.rakp_2.RakpMessage2.from_data.Statement.{statement}
@@ -7,7 +6,7 @@ use Rattle.messages.proofs.rakp_2.RakpMessage2.from_data.Tie as tie
 
 read-fields-requires : tie.Need-read-fields-requires
 read-fields-requires c κs =
-    checked-size 2 names2 40 20 0 _ (test-passed _ _ (c .before .before .check-head .ensures) (c .enum-told .given .1))
+    checked-size _ 40 _ _ _ (test-passed _ _ (c .before .before .check-head .ensures) (c .enum-told .given .1))
 
 returns : tie.Need-returns
 returns c =

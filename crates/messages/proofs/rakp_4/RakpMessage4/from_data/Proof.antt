@@ -1,6 +1,5 @@
 -- `RakpMessage4::from_data` keeps its promise: the tests, then the fields.
 use native.Mathlib.Omega.{arith}
-use Rattle.messages.specs.Status.{names4}
 use Rattle.messages.specs.Rakp.{fields4}
 use Rattle.messages.proofs.Reading.{test-passed, checked-size, read4-no, read4-yes}
 use borrow.Author.Needs.{needs}
@@ -9,13 +8,13 @@ use Rattle.messages.proofs.rakp_4.RakpMessage4.from_data.Tie as tie
 
 shared-slice-read-t10 : tie.Need-shared-slice-read-t10
 shared-slice-read-t10 c =
-    let h = checked-size 1 names4 8 21 0 _
+    let h = checked-size _ 8 _ _ _
     (test-passed _ _ (c .before .before .before .check-head .ensures) (c .before .enum-told .given .1)) in
     omega arith
 
 sub-t13 : tie.Need-sub-t13
 sub-t13 c =
-    let h = checked-size 1 names4 8 21 0 _
+    let h = checked-size _ 8 _ _ _
     (test-passed _ _ (c .before .before .before .before .check-head .ensures) (c .before .before .enum-told .given .1)) in
     omega arith
 

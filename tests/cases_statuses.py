@@ -11,19 +11,19 @@ STATUSES = list(range(0x14)) + [0x77, 0x80, 0xFF]
 
 
 def recorded():
-    """The message 2 that a controller sent to a console whose user it did not know."""
+    """The message 2 that a controller sent to a console whose user it did not know: the last datagram without its two headers."""
     path = os.path.join(os.path.dirname(os.path.abspath(__file__)), "captures", "ipmitool_c3_unknown_user.txt")
     with open(path, encoding="utf8") as f:
         return bytes.fromhex(f.read().split()[-1])[16:]
 
 
 def status_readings(d):
-    """The shortest messages; every value at 1, 2 and 3, and statuses at 1 and 2 both, in messages of every length that matters; the
-    recorded message cut at every place."""
+    """The shortest messages; every value at 2 and 3, and statuses at 1 and 2 both, in messages of every length that matters (`readings`
+    has every value at 1); the recorded message cut at every place."""
     for byte in range(256):
         yield line("rakp2", bytes([0, byte, 0, 0]))
         yield line("rakp2", bytes([0, 0, byte, 0]))
-    for place in (1, 2, 3):
+    for place in (2, 3):
         for byte in range(256):
             text = at(whole(d, "rakp2") + d.bytes(80), place, byte)
             for n in (2, 3, 4, 8, 39, 40, 60):
@@ -33,8 +33,9 @@ def status_readings(d):
             text = at(whole(d, "rakp2") + d.bytes(80), 1, one, other)
             for n in (3, 4, 39, 60):
                 yield line("rakp2", text[:n])
-    for n in range(61):
-        yield line("rakp2", recorded()[:n])
+    text = recorded()
+    for n in range(len(text) + 1):
+        yield line("rakp2", text[:n])
 
 
 def status_steps(d):

@@ -62,10 +62,10 @@ def exchanges(d):
 
 def statuses(d):
     """Every status at its place in each answer, in the shortest message that has one and in a whole one."""
-    for place, message in ((1, "opened"), (1, "m2"), (1, "m4")):
+    for message in ("opened", "m2", "m4"):
         for status in range(256):
             e = good(d)
-            whole = at(e[message], place, status)
+            whole = at(e[message], 1, status)
             for text in (whole, whole[:4], whole[:2]):
                 yield steps(e, **{message: text})
     for status in range(256):                  # message 2's byte 2, where the Rust reads a status, is not read

@@ -12,7 +12,7 @@ COMMON = {0x01, 0x02, 0x12}
 NAMED_OPEN = COMMON | {3, 4, 5, 6, 7, 9, 0x10, 0x11}
 NAMED_M2 = COMMON | {8, 9, 0x0A, 0x0B, 0x0C, 0x0D}
 NAMED_M4 = COMMON | {8, 0x0F}
-STATUS_AT_M2 = 1
+STATUS_AT_M2 = 1        # tests/compare sets it, and NAMED_M2, to what the Rust has
 
 
 class Refused(Exception):

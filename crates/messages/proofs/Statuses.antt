@@ -1,5 +1,5 @@
--- Message 2's status, of every call of its reader: a status that is not zero refuses the message with its own number and byte, whatever
--- else the message holds; and the two reserved bytes behind the status have no part in the answer.
+-- Message 2's status, of every call of its reader. A message of four bytes or more whose status is not zero is refused, by 17 or 18 and
+-- with that status, whatever else it holds; and the two reserved bytes behind the status have no part in the answer.
 use Prim.Native.Nat.{ℕ, _≤_}
 use native.Mathlib.Omega.{arith}
 use mathlib.Core.List.{List, _∷_}
@@ -41,9 +41,9 @@ pub inactive-session : (c : ReadCall2) → 4 ≤ length (lent2 c) → getD (lent
 unfolding statusNumber
 inactive-session c h e = status-told c 0x08 h e (λ z. omega arith)
 
-pub three-unnamed : (c : ReadCall2) → 4 ≤ length (lent2 c) → getD (lent2 c) 1 0 ≡ 0x03 → told (c .answer .answer) ≡ refuse 18 0x03
+pub status-03-unnamed : (c : ReadCall2) → 4 ≤ length (lent2 c) → getD (lent2 c) 1 0 ≡ 0x03 → told (c .answer .answer) ≡ refuse 18 0x03
 unfolding statusNumber
-three-unnamed c h e = status-told c 0x03 h e (λ z. omega arith)
+status-03-unnamed c h e = status-told c 0x03 h e (λ z. omega arith)
 
 unread : (tag status a b x y : ℕ) (rest : List ℕ) → message2 (tag ∷ status ∷ a ∷ b ∷ rest) ≡ message2 (tag ∷ status ∷ x ∷ y ∷ rest)
 unfolding message2 checked fields2

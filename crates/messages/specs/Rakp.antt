@@ -14,7 +14,7 @@ use Rattle.messages.specs.declared.«rakp_2».RakpMessage2.{RakpMessage2
 use Rattle.messages.specs.declared.«rakp_3».RakpMessage3.{RakpMessage3}
 use Rattle.messages.specs.declared.«rakp_4».RakpMessage4.{RakpMessage4}
 
--- messages 2 and 4: under 4 bytes 1; the status at 1, then two reserved bytes; under the fixed part's bytes 1; the id at 4 zero
+-- messages 2 and 4: under 4 bytes 1; the status at 1 (2 and 3 are reserved); under the fixed part's bytes 1; the id at 4 zero
 unfoldable pub checked : List ℕ → ℕ → ℕ → ℕ → List ℕ → Res Unit
 checked names fixed number value m =
     need (leb 4 (length m)) 1 0

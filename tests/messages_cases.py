@@ -58,9 +58,9 @@ def message_4(m):
     return m[0], number(m[4:8]), (8, len(m) - 8)
 
 def username(b):
-    first = b[:16]
-    need(all(0 < x < 128 for x in first), 34)
-    return first
+    need(len(b) <= 16, 40)
+    need(all(0 < x < 128 for x in b), 34)
+    return b
 
 def le4(n):
     return n.to_bytes(4, "little")
@@ -108,14 +108,16 @@ TEMPLATE = {
     "2": bytes.fromhex("0d000000a4000000") + LETTERS,
     "4": bytes.fromhex("0a000000a4000000") + LETTERS,
     "name": b"n" * 64,
+    "long name": b"n" * 64,
     0: bytes.fromhex("0000000801000000") + bytes(56),
     1: bytes.fromhex("0100000801000000") + bytes(56),
     2: bytes.fromhex("0200000801000000") + bytes(56),
 }
-READERS = {"open": (open_response, 36), "2": (message_2, 60), "4": (message_4, 20), "name": (username, 17)}
+READERS = {"open": (open_response, 36), "2": (message_2, 60), "4": (message_4, 20), "name": (username, 16),
+           "long name": (username, 17)}
 
 def shown(kind):
-    return len if kind == "name" else (lambda r: r[1]) if kind in (0, 1, 2) else (lambda r: r[0])
+    return len if kind in ("name", "long name") else (lambda r: r[1]) if kind in (0, 1, 2) else (lambda r: r[0])
 
 def byte(label, kind, at):
     reader, size = READERS.get(kind, (block, 8))
@@ -197,8 +199,10 @@ def rows():
     byte("message 2, id", "2", 4)
     byte("message 4, tag", "4", 0)
     byte("message 4, id", "4", 4)
-    for at in (0, 15, 16):
+    for at in (0, 15):
         byte("username, byte %d" % at, "name", at)
+    for at in (0, 15, 16):
+        byte("username of 17, byte %d" % at, "long name", at)
 
 rust_cases()
 rows()

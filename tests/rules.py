@@ -164,7 +164,7 @@ def status(byte, named):
 
 
 def username(name):
-    name = name[:16]
+    need(len(name) <= 16, 40)
     need(all(0 < b < 128 for b in name), 34)
     return name
 

@@ -9,3 +9,4 @@ pub mod Only
 pub mod Inverse
 pub mod Answered
 pub mod Statuses
+pub mod WholeNames

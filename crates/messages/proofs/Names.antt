@@ -4,21 +4,21 @@ use native.Mathlib.Omega.{arith}
 use native.Mathlib.Numerals.{add-one}
 use mathlib.Core.Bool.{Bool, true, false, not, _&&_}
 use mathlib.Core.List.{List, _++_}
-use mathlib.Core.Path.{_≡_, refl, sym, _∙_, ap, ap₂}
+use mathlib.Core.Path.{_≡_, refl, sym, _∙_, ap, subst}
 use lib.Dec.{eqb, ltb}
 use lib.ListN.{length, getD, take, drop, replicate, drop-of-length-le}
-use lib.Seq.{drop-cons, take-all, length-take-le}
-use borrow.Author.Tests.{eq-eqb, ne-eqb, lt-ltb, le-ltb}
-use Rattle.refusal.specs.Order.{Res, refuse, accept, done}
-use Rattle.refusal.specs.declared.Refusal.the-variants.{InvalidUsername}
-use Rattle.refusal.proofs.Order.{pass, need-no}
+use lib.Seq.{drop-cons, take-all, take-at, length-take-le}
+use borrow.Author.Tests.{eq-eqb, ne-eqb, lt-ltb, le-ltb, le-leb, lt-leb, leb-true}
+use Rattle.refusal.specs.Order.{Res, refuse, accept}
+use Rattle.refusal.proofs.Order.{accept-inj, pass, need-no, need-inv}
 use Rattle.octets.specs.Place.{filled}
 use Rattle.octets.specs.Promise.{PutPromise}
 use Rattle.octets.proofs.Filled.{put-filled}
-use Rattle.messages.specs.Name.{allowed, usernameOf, nameOf, stored}
-use Rattle.messages.specs.Promises.{NamePromise, heldName}
-use Rattle.refusal.specs.declared.Outcome.the-variants.{Done, Refused}
+use Rattle.messages.specs.Name.{allowed, longestName, usernameOf, nameOf, stored}
+use Rattle.messages.specs.Promises.{NamePromise}
+use Rattle.refusal.specs.declared.Outcome.the-variants.{Done}
 use Rattle.messages.specs.declared.«rakp_1».Username.{Username}
+use Rattle.messages.specs.declared.«rakp_1».UsernameAnswer.{UsernameAnswer}
 
 -- the bytes are tested from the first on: those that are left matter
 module _ (l : List ℕ) (i : ℕ) (e : allowed l ≡ allowed (drop i l)) (h : i < length l) where
@@ -51,38 +51,38 @@ module _ (u : Username) (e : length (u .bytes) ≡ 16) where
   unfolding nameOf
   len-within h = let k : u .len ≤ length (u .bytes) = omega arith in (sym (length-take-le _ _ k), h, refl)
 
--- only the first sixteen bytes count
-pub first-short : (l : List ℕ) → length l < 16 → take 16 l ≡ take (length l) l
-first-short l h =
-    let a : length l ≤ 16 = omega arith in
-    let b : length l ≤ length l = omega arith in
-    take-all 16 l a ∙ sym (take-all (length l) l b)
+-- which name is refused, and which is taken: whole
+name-as : (R S : Res (List ℕ)) (z : UsernameAnswer) → R ≡ S → NamePromise S z → NamePromise R z
+name-as R S z e p = subst (λ (X : Res (List ℕ)). NamePromise X z) (sym e) p
 
-abbrev made : List ℕ → ℕ → Username
-made x n = record { bytes = x; len = n }
+pub name-long : (l : List ℕ) (z : UsernameAnswer) → NamePromise (refuse 40 0) z → longestName < length l → NamePromise (usernameOf l) z
+unfolding usernameOf
+name-long l z p h = name-as _ _ z (need-no _ _ _ _ (lt-leb (length l) longestName h)) p
 
-module _ (l : List ℕ) (n : ℕ) (e : take 16 l ≡ take n l) (t : Bool) (f : t ≡ allowed (take n l)) where
-  whole : allowed (take 16 l) ≡ t
-  whole = ap allowed e ∙ sym f
+module _ (l : List ℕ) (h : length l ≤ longestName) where
+  pub name-no : (z : UsernameAnswer) → allowed l ≡ false → NamePromise (refuse 34 0) z → NamePromise (usernameOf l) z
+  unfolding usernameOf
+  name-no z g p = name-as _ _ z (pass _ _ _ _ (le-leb _ _ h) (need-no _ _ _ _ g)) p
 
-  pub name-no : t ≡ false
-      → NamePromise (usernameOf l)
-      (record { answer = Refused InvalidUsername; username = record { bytes = replicate 16 0; len = 0 } })
-  unfolding usernameOf stored
-  name-no g =
-      let r : usernameOf l ≡ refuse 34 0 = need-no _ _ _ _ (whole ∙ g) in
-      record { answer = sym (ap done r); name = sym (ap (λ (x : Res (List ℕ)). stored (heldName x)) r) }
-
-  pub name-yes : (x : List ℕ) (r : Bool) → t ≡ true → n ≤ length l → n ≤ 16 → PutPromise (replicate 16 0) 0 (take n l) r x
-      → NamePromise (usernameOf l) (record { answer = Done; username = record { bytes = x; len = n } })
+  pub name-yes : (x : List ℕ) (r : Bool) → allowed l ≡ true → PutPromise (replicate 16 0) 0 l r x
+      → NamePromise (usernameOf l) (record { answer = Done; username = record { bytes = x; len = length l } })
   unfolding usernameOf stored filled
-  name-yes x r g h k p =
-      let a : length (take n l) ≡ n = length-take-le n l h in
-      let s : usernameOf l ≡ accept (take n l) = pass _ _ _ _ (whole ∙ g) (ap accept e) in
-      let b : x ≡ take n l ++ replicate (16 - length (take n l)) 0 =
-      put-filled 16 (take n l) r x p (omega arith)
+  name-yes x r g p =
+      let e : x ≡ l ++ replicate (16 - length l) 0 = put-filled 16 l r x p h in
+      let m : _≡_ {A = Username} (record { bytes = x; len = length l }) (stored l) =
+      ap (λ (y : List ℕ). record { bytes = y; len = length l }) e
       in
-      let m : _≡_ {A = Username} (record { bytes = x; len = n }) (stored (take n l)) =
-      ap₂ made b (sym a)
-      in
-      record { answer = sym (ap done s); name = m ∙ sym (ap (λ (y : Res (List ℕ)). stored (heldName y)) s) }
+      name-as _ (accept l) _ (pass _ _ _ _ (le-leb _ _ h) (pass _ _ _ _ g refl)) (record { answer = refl; name = m })
+
+-- a name that was stored is held whole
+pub stored-whole : (n : List ℕ) → nameOf (stored n) ≡ n
+unfolding nameOf stored
+stored-whole n = take-at n _ (length n) refl
+
+-- what a name is that was taken
+pub taken-name : (l n : List ℕ) → usernameOf l ≡ accept n → (length l ≤ longestName) × (allowed l ≡ true) × (l ≡ n)
+unfolding usernameOf
+taken-name l n e =
+    let a = need-inv _ _ _ _ e in
+    let b = need-inv _ _ _ _ (a .1) in
+    (leb-true _ _ (a .0), b .0, accept-inj _ _ (b .1))

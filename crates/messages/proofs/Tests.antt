@@ -8,7 +8,7 @@ use mathlib.Core.Path.{_≡_, refl, sym, _∙_, ap}
 use lib.Dec.{leb}
 use lib.ListN.{length, getD, drop, drop-of-length-le}
 use lib.Seq.{drop-cons}
-use borrow.Author.Tests.{eq-eqb, ne-eqb, le-leb, lt-leb}
+use borrow.Author.Tests.{eq-eqb, ne-eqb, le-leb, lt-leb, not-true, not-false}
 use Rattle.refusal.specs.Order.{Res, refuse, accept}
 use Rattle.refusal.specs.Table.{among}
 use Rattle.refusal.proofs.Order.{pass, need-no}
@@ -17,6 +17,13 @@ use Rattle.octets.specs.Place.{part}
 use Rattle.messages.specs.Auth.{isLevel}
 use Rattle.messages.specs.Status.{common, statusNumber}
 use Rattle.messages.specs.Rakp.{checked}
+
+-- what a negated test says of the definition that its function keeps
+pub test-no : {r t : Bool} → r ≡ t → not r ≡ true → t ≡ false
+test-no {r = r} e h = sym e ∙ not-true r h
+
+pub test-yes : {r t : Bool} → r ≡ t → not r ≡ false → t ≡ true
+test-yes {r = r} e h = sym e ∙ not-false r h
 
 -- levels
 pub level-no : (b : ℕ) → b ≡ 0 → false ≡ isLevel b

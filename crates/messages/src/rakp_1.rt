@@ -3,6 +3,8 @@ ghost use mathlib.Core.Path.{_≡_};
 ghost use Prim.Native.Nat.{_+_, _≤_};
 ghost use mathlib.Core.List.{_++_};
 ghost use lib.ListN.{length, take};
+ghost use Rattle.refusal.specs.Order.{refuse};
+ghost use Rattle.refusal.specs.Table.{numberOf, valueOf};
 ghost use Rattle.octets.specs.Place.{begun};
 ghost use Rattle.messages.specs.Name.{allowed, nameOf, usernameOf};
 ghost use Rattle.messages.specs.Rakp.{message1};
@@ -16,6 +18,9 @@ use refusal::Refusal;
 const ROLE_AT: usize = 24;
 
 const NAME_AT: usize = 28;
+
+// How many bytes a name may have.
+const LONGEST_NAME: usize = 16;
 
 // A name: its first `len` bytes, or all sixteen where `len` is more.
 pub struct Username {
@@ -45,15 +50,39 @@ fn is_allowed(name: &[u8]) -> bool
     true
 }
 
+// A refusal, beside an empty name.
+fn refuse_name(r: Refusal) -> UsernameAnswer
+    ensures { λ z. ⌜ NamePromise (refuse (numberOf r) (valueOf r)) z ⌝ }
+{
+    UsernameAnswer {
+        answer: Outcome::Refused(r),
+        username: Username {
+            bytes: [0u8; 16],
+            len: 0,
+        },
+    }
+}
+
 impl Username {
-    // The name that a user has typed; only its first sixteen bytes count.
+    // The name that a user has typed: the whole of it, or a refusal.
     pub fn new(name: &[u8]) -> UsernameAnswer
         ensures { λ r. ⌜ NamePromise (usernameOf (now (name .entry))) r ⌝ }
     {
-        if name.len() < 16 {
-            return take_name(name, name.len());
+        if LONGEST_NAME < name.len() {
+            return refuse_name(Refusal::UsernameTooLong);
         }
-        take_name(name, 16)
+        if !is_allowed(name) {
+            return refuse_name(Refusal::InvalidUsername);
+        }
+        let mut bytes = [0u8; 16];
+        octets::put(&mut bytes, 0, name);
+        UsernameAnswer {
+            answer: Outcome::Done,
+            username: Username {
+                bytes,
+                len: name.len(),
+            },
+        }
     }
 }
 
@@ -65,25 +94,6 @@ fn count_name(u: Username) -> usize
         return 16;
     }
     u.len
-}
-
-// The first n bytes of what was typed, which are those that count, as a name.
-fn take_name(name: &[u8], n: usize) -> UsernameAnswer
-    requires { ⌜ (n ≤ length (now name)) × (n ≤ 16) × (take 16 (now name) ≡ take n (now name)) ⌝ }
-    ensures { λ r. ⌜ NamePromise (usernameOf (now (name .entry))) r ⌝ }
-{
-    let mut bytes = [0u8; 16];
-    if !is_allowed(&name[..n]) {
-        return UsernameAnswer {
-            answer: Outcome::Refused(Refusal::InvalidUsername),
-            username: Username { bytes, len: 0 },
-        };
-    }
-    octets::put(&mut bytes, 0, &name[..n]);
-    UsernameAnswer {
-        answer: Outcome::Done,
-        username: Username { bytes, len: n },
-    }
 }
 
 pub struct RakpMessage1 {

@@ -100,7 +100,9 @@ fn show_fields() {
     show_line(b"message 4, id", readers::MESSAGE_4, 4, 255);
     show_line(b"username, byte 0", readers::NAME, 0, 255);
     show_line(b"username, byte 15", readers::NAME, 15, 255);
-    show_line(b"username, byte 16", readers::NAME, 16, 255);
+    show_line(b"username of 17, byte 0", readers::LONG_NAME, 0, 255);
+    show_line(b"username of 17, byte 15", readers::LONG_NAME, 15, 255);
+    show_line(b"username of 17, byte 16", readers::LONG_NAME, 16, 255);
 }
 
 fn main() {

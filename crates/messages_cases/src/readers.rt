@@ -28,6 +28,9 @@ pub const BLOCK_1: u8 = 4;
 pub const BLOCK_2: u8 = 5;
 
 pub const NAME: u8 = 6;
+
+pub const LONG_NAME: u8 = 7;
+
 // The same with CUT added: the length is varied.
 pub const CUT: u8 = 8;
 
@@ -132,7 +135,7 @@ fn make_bytes(kind: u8) -> [u8; 64] {
     }
 }
 
-// How many of them are the message; of the name one more than counts.
+// How many of them are the message: a name may have 16, and the long one has one more.
 fn size_of(kind: u8) -> usize
     ensures { λ r. ⌜ r ≤ 64 ⌝ }
 {
@@ -140,7 +143,8 @@ fn size_of(kind: u8) -> usize
         0 => 36,
         1 => 60,
         2 => 20,
-        6 => 17,
+        6 => 16,
+        7 => 17,
         _ => 8,
     }
 }
@@ -151,6 +155,7 @@ fn try_kind(kind: u8, s: &[u8]) -> Told {
         1 => try_message_2(s),
         2 => try_message_4(s),
         6 => try_name(s),
+        7 => try_name(s),
         _ => try_block(s),
     }
 }

@@ -55,7 +55,8 @@ table v =
     refusal.PasswordTooLong ∷
     refusal.TooLongToHash ∷
     refusal.AlreadyTaken ∷
-    refusal.TooOld ∷ []
+    refusal.TooOld ∷
+    refusal.UsernameTooLong ∷ []
 
 -- the refusal of a number in a list
 abbrev find : ℕ → List Refusal → Refusal
@@ -107,6 +108,7 @@ known refusal.PasswordTooLong = refl
 known refusal.TooLongToHash = refl
 known refusal.AlreadyTaken = refl
 known refusal.TooOld = refl
+known refusal.UsernameTooLong = refl
 
 -- two refusals with the same number and value are equal
 pub told-one : (a b : Refusal) → numberOf a ≡ numberOf b → valueOf a ≡ valueOf b → a ≡ b

@@ -48,6 +48,7 @@ entryOf refusal.PasswordTooLong = (36, 0)
 entryOf refusal.TooLongToHash = (37, 0)
 entryOf refusal.AlreadyTaken = (38, 0)
 entryOf refusal.TooOld = (39, 0)
+entryOf refusal.UsernameTooLong = (40, 0)
 
 abbrev pub numberOf : Refusal → ℕ
 numberOf r = entryOf r .0
@@ -61,7 +62,7 @@ numbers =
     1 ∷ 2 ∷ 3 ∷ 4 ∷ 5 ∷ 6 ∷ 7 ∷ 8 ∷ 9 ∷ 10 ∷
     11 ∷ 12 ∷ 13 ∷ 14 ∷ 15 ∷ 16 ∷ 17 ∷ 18 ∷ 19 ∷ 20 ∷
     21 ∷ 22 ∷ 23 ∷ 24 ∷ 25 ∷ 26 ∷ 27 ∷ 28 ∷ 29 ∷ 30 ∷
-    31 ∷ 32 ∷ 33 ∷ 34 ∷ 35 ∷ 36 ∷ 37 ∷ 38 ∷ 39 ∷ []
+    31 ∷ 32 ∷ 33 ∷ 34 ∷ 35 ∷ 36 ∷ 37 ∷ 38 ∷ 39 ∷ 40 ∷ []
 
 -- the numbers that a byte goes with: 3 the six bits of the type, the others a whole byte
 abbrev pub carrying : List ℕ

@@ -43,6 +43,7 @@ pub enum Refusal {
     TooLongToHash,
     AlreadyTaken,
     TooOld,
+    UsernameTooLong,
 }
 
 // Whether a call did what it was asked to, and if not, why.
@@ -96,6 +97,7 @@ impl Refusal {
             Refusal::TooLongToHash => 37,
             Refusal::AlreadyTaken => 38,
             Refusal::TooOld => 39,
+            Refusal::UsernameTooLong => 40,
         }
     }
 

@@ -4,20 +4,21 @@ use mathlib.Core.Bool.{true, and-eq-true-iff}
 use mathlib.Core.List.{List}
 use mathlib.Core.Path.{_≡_, sym, _∙_, ap}
 use lib.Dec.{eqb, leb}
-use lib.ListN.{take, drop}
+use lib.ListN.{length, drop}
 use borrow.Author.Tests.{eqb-true, eqb-false, leb-true, not-true}
 use Rattle.refusal.specs.Order.{accept}
 use Rattle.refusal.proofs.Order.{accept-inj, need-inv, then-inv}
 use Rattle.octets.specs.Number.{unle}
 use Rattle.octets.specs.Place.{part}
 use Rattle.octets.proofs.Equal.{same-true}
-use Rattle.messages.specs.Name.{allowed, usernameOf, stored}
+use Rattle.messages.specs.Name.{allowed, longestName, stored}
 use Rattle.messages.specs.OpenSession.{Response, openChecked, openNumbers, openFields, openResponse}
-use Rattle.messages.specs.Rakp.{fields4, message4}
+use Rattle.messages.specs.Rakp.{message1, fields4, message4}
 use Rattle.messages.specs.declared.«rakp_2».RakpMessage2.{RakpMessage2}
 use Rattle.messages.specs.declared.«rakp_4».RakpMessage4.{RakpMessage4}
+use Rattle.messages.proofs.Names.{taken-name}
 use Rattle.session.specs.Record.{stepNumber, inStep, answered, keyed, opened}
-use Rattle.session.specs.Steps.{Made, readyBegin, madeBegin, beginOf, readyOpen, heardOpen, madeOpen, openOf}
+use Rattle.session.specs.Steps.{Made, readyBegin, madeBegin, beginOf, readyOpen, heardOpen, oneTo, madeOpen, openOf}
 use Rattle.session.specs.Steps.{readyTwo, sikTwo, madeTwo, provedTwo, twoOf, readyFour, valueFour, heardFour, fourOf}
 use Rattle.session.specs.declared.Asked.{Asked}
 use Rattle.session.specs.declared.Record.{Record}
@@ -29,26 +30,24 @@ in-step s k e =
     (eqb-true _ _ (a .0), leb-true _ _ (a .1))
 
 -- Begin
-name-tells : (name n : List ℕ) → usernameOf name ≡ accept n → (allowed (take 16 name) ≡ true) × (take 16 name ≡ n)
-unfolding usernameOf
-name-tells name n e = let a = need-inv _ _ _ _ e in (a .0, accept-inj _ _ (a .1))
-
 pub begin-tells : (asked : Asked) (name : List ℕ) (room : ℕ) (M : Made)
     → beginOf asked name room ≡ accept M
     → (asked .console ≡ 0 → ⊥)
-    × (allowed (take 16 name) ≡ true)
-    × (M ≡ madeBegin asked (stored (take 16 name)))
+    × (length name ≤ longestName)
+    × (allowed name ≡ true)
+    × (M ≡ madeBegin asked (stored name))
 unfolding beginOf readyBegin
 begin-tells asked name room M e =
     let a = then-inv _ _ _ e in
     let b = need-inv _ _ _ _ (a .1) in
     let c = then-inv _ _ _ (a .2) in
-    let d = name-tells name (c .0) (c .1) in
+    let d = taken-name name (c .0) (c .1) in
     let f = need-inv _ _ _ _ (c .2) in
     let g : madeBegin asked (stored (c .0)) ≡ M = accept-inj _ _ (f .1) in (
       eqb-false (asked .console) 0 (not-true _ (b .0)),
       d .0,
-      sym (accept-inj _ _ (f .1)) ∙ ap (λ (n : List ℕ). madeBegin asked (stored n)) (sym (d .1)),
+      d .1,
+      sym g ∙ ap (λ (n : List ℕ). madeBegin asked (stored n)) (sym (d .2)),
     )
 
 -- the open response
@@ -69,7 +68,11 @@ response-system m r e z =
     eqb-false (unle (part m 8 4)) 0 (not-true _ (h .0)) (ap (λ (x : Response). x .system) u ∙ z)
 
 pub open-tells : (s : Record) (m rm : List ℕ) (room : ℕ) (M : Made) → openOf s m rm room ≡ accept M
-    → (r : Response) × (stepNumber (s .step) ≡ 1) × (r .system ≡ 0 → ⊥) × (M .next ≡ answered s r rm)
+    → (r : Response)
+    × (stepNumber (s .step) ≡ 1)
+    × (r .system ≡ 0 → ⊥)
+    × (M .next ≡ answered s r rm)
+    × (M .bytes ≡ message1 (oneTo (r .system) s rm))
 unfolding openOf readyOpen heardOpen madeOpen
 open-tells s m rm room M e =
     let a = then-inv _ _ _ e in
@@ -85,6 +88,7 @@ open-tells s m rm room M e =
       in-step s 1 (b .0) .0,
       (λ z. response-system m (d .0) (d .1) (ap (λ (x : Response). x .system) k ∙ z)),
       ap (λ (x : Made). x .next) (sym w),
+      ap (λ (x : Made). x .bytes) (sym w),
     )
 
 -- message 2

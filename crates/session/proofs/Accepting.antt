@@ -5,13 +5,13 @@ use mathlib.Core.List.{List, []}
 use mathlib.Core.Logic.{_⊎_, ⊎-elim}
 use mathlib.Core.Path.{_≡_, refl, sym, _∙_, ap, ap₂}
 use lib.Dec.{eqb}
-use lib.ListN.{length, take, drop}
+use lib.ListN.{length, drop}
 use borrow.Author.Tests.{eq-eqb, ne-eqb, le-leb}
 use Rattle.refusal.specs.Order.{Res, refuse, accept, need, andThen}
 use Rattle.refusal.proofs.Order.{pass, need-no, then-refuse, then-accept}
 use Rattle.octets.specs.Equal.{same}
 use Rattle.octets.proofs.Equal.{same-self, same-true}
-use Rattle.messages.specs.Name.{allowed, usernameOf, stored}
+use Rattle.messages.specs.Name.{allowed, longestName, usernameOf, stored}
 use Rattle.messages.specs.OpenSession.{Response, openResponse}
 use Rattle.messages.specs.Rakp.{message2, message4}
 use Rattle.messages.specs.declared.«rakp_2».RakpMessage2.{RakpMessage2}
@@ -32,11 +32,11 @@ same-of l m e = ap (same l) (sym e) ∙ same-self l
 
 -- Begin
 pub begin-accepts : (asked : Asked) (name : List ℕ) (room : ℕ) → (asked .console ≡ 0 → ⊥) → levelAllowed (asked .level) ≡ true
-    → allowed (take 16 name) ≡ true → requestSize ≤ room → beginOf asked name room ≡ accept (madeBegin asked (stored (take 16 name)))
+    → length name ≤ longestName → allowed name ≡ true → requestSize ≤ room → beginOf asked name room ≡ accept (madeBegin asked (stored name))
 unfolding beginOf readyBegin usernameOf
-begin-accepts asked name room d l a b =
+begin-accepts asked name room d l n a b =
     then-accept _ _ tt (pass _ _ _ _ (ap not (ne-eqb _ 0 d)) (pass _ _ _ _ l refl))
-    ∙ then-accept _ _ (take 16 name) (pass _ _ _ _ a refl)
+    ∙ then-accept _ _ name (pass _ _ _ _ (le-leb _ _ n) (pass _ _ _ _ a refl))
     ∙ pass _ _ _ _ (le-leb _ _ b) refl
 
 -- the open response

@@ -1,12 +1,12 @@
 -- The whole exchange, of the calls themselves: whatever `begin`, `open_response`, `message_2`, `message_4` and `sub_state` answer and
 -- leave, it is an exchange that went well, or one that is refused where message 4 has another value. Of the calls nothing is used but
 -- their contracts and what the types of their arguments say.
-use Prim.Native.Nat.{ℕ, _^_, _≤_, _<_}
+use Prim.Native.Nat.{ℕ, _^_, _<_}
 use native.Mathlib.Omega.{arith}
 use mathlib.Core.Bool.{true, false}
 use mathlib.Core.List.{List, [], _++_}
 use mathlib.Core.Path.{_≡_, refl, sym, _∙_, ap, ap₂}
-use lib.ListN.{length, take, length-take}
+use lib.ListN.{length, take}
 use denote.Ref.{now}
 use Rattle.refusal.specs.Call.{Call}
 use Rattle.refusal.specs.Order.{Res, refuse, accept, done}
@@ -39,7 +39,7 @@ use Rattle.session.proofs.checking.message_4.Reads as four-reads
 use Rattle.session.proofs.state.sub_state.Kinds as session-kinds
 use Rattle.session.proofs.state.sub_state.Reads as session-reads
 
--- the three calls that write, and how they are seen from outside
+-- the four steps' calls, and how those that write are seen from outside
 abbrev pub BeginCall : Type 0
 BeginCall = Call 2 begin-kinds.ps begin-kinds.r begin-reads.Post
 
@@ -48,6 +48,13 @@ OpenCall = Call 2 open-kinds.ps open-kinds.r open-reads.Post
 
 abbrev pub TwoCall : Type 0
 TwoCall = Call 3 two-kinds.ps two-kinds.r two-reads.Post
+
+abbrev pub FourCall : Type 0
+FourCall = Call 1 four-kinds.ps four-kinds.r four-reads.Post
+
+-- the name that Begin was lent
+abbrev pub nameLent : BeginCall → List ℕ
+nameLent c = now (c .args .1 .0)
 
 abbrev pub seenBegin : BeginCall → Seen
 seenBegin c = record { lent = now (c .args .1 .1 .0); answer = c .answer; left = now (c .exit .1 .1 .0) }
@@ -73,7 +80,7 @@ pub record Calls (y : System) : Type 0 where
 
 -- then `message_4`, given the record s and the message m, and `sub_state`, given the record that it answered
 pub record Ends (s : Record) (m : List ℕ) : Type 0 where
-  pub message-4 : Call 1 four-kinds.ps four-kinds.r four-reads.Post
+  pub message-4 : FourCall
   pub sub-state : Call 0 session-kinds.ps session-kinds.r session-reads.Post
   pub four-record : message-4 .args .0 ≡ s
   pub four-message : now (message-4 .args .1 .0) ≡ m
@@ -83,7 +90,7 @@ pub record Ends (s : Record) (m : List ℕ) : Type 0 where
 console-small : (c : BeginCall) → c .args .0 .console < 2 ^ 32
 console-small c = let g = c .typed in omega arith
 
-random-sixteen : (c : OpenCall) → length (c .args .1 .1 .0) ≡ 16
+pub random-sixteen : (c : OpenCall) → length (c .args .1 .1 .0) ≡ 16
 random-sixteen c = let g = c .typed in omega arith
 
 -- a call that keeps its promise, of a step that makes M
@@ -94,7 +101,7 @@ module _ (R : Res Made) (M : Made) (s : Record) (c : Seen) (p : StepPromise R s 
   made-next : c .answer .state ≡ M .next
   made-next = made .next
 
-  made-sent : sent c ≡ M .bytes
+  pub made-sent : sent c ≡ M .bytes
   made-sent = ap₂ take (made .len) (made .buffer) ∙ begun-take (M .bytes) (c .lent) _ refl
 
   made-wrote : Wrote c
@@ -141,7 +148,7 @@ module _ (y : System) (c : Calls y) where
   asked = c .begin .args .0
 
   abbrev pub name : List ℕ
-  name = now (c .begin .args .1 .0)
+  name = nameLent (c .begin)
 
   abbrev pub random : List ℕ
   random = c .open-response .args .1 .1 .0
@@ -157,17 +164,16 @@ module _ (y : System) (c : Calls y) where
 
   -- what Begin makes, and what the steps then make
   abbrev began : Made
-  began = madeBegin asked (stored (take 16 name))
+  began = madeBegin asked (stored name)
 
   module _ (h : Suits y asked name request one three) where
-    steps : StepsAgree longestPassword y asked (take 16 name) random (length (one .lent)) (length (three .lent)) began
+    steps : StepsAgree longestPassword y asked name random (length (one .lent)) (length (three .lent)) began
     steps =
-        let l : length (take 16 name) ≤ 16 = simp length-take (omega arith) in
-        exchanged longestPassword y (h .regular) asked (take 16 name) random (length (one .lent)) (length (three .lent))
-        (console-small (c .begin)) (h .console) (h .level) l (h .username) (random-sixteen (c .open-response)) (h .password) (h .room₁) (h .room₃)
+        exchanged longestPassword y (h .regular) asked name random (length (one .lent)) (length (three .lent))
+        (console-small (c .begin)) (h .console) (h .level) (h .short) (h .username) (random-sixteen (c .open-response)) (h .password) (h .room₁) (h .room₃)
 
     begin-made : beginOf asked name (length (request .lent)) ≡ accept began
-    begin-made = begin-accepts asked name (length (request .lent)) (h .console) (h .level) (h .username) (h .room)
+    begin-made = begin-accepts asked name (length (request .lent)) (h .console) (h .level) (h .short) (h .username) (h .room)
 
     sent₀ : sent request ≡ began .bytes
     sent₀ = made-sent _ began closed request (c .begin .kept) begin-made
@@ -223,7 +229,7 @@ module _ (y : System) (c : Calls y) where
             begins = made-wrote _ began closed request (c .begin .kept) begin-made;
             accepts-response = made-wrote _ (steps .answered) (c .open-response .args .0) one (c .open-response .kept) open-made;
             accepts-two = made-wrote _ (steps .keyed) (c .message-2 .args .0) three (c .message-2 .kept) two-made;
-            hears = hears-same y sent₀ sent₁ sent₃ asked (take 16 name) random (steps .hears);
+            hears = hears-same y sent₀ sent₁ sent₃ asked name random (steps .hears);
             accepts-four = outcome-one (z .message-4 .answer .answer) Done (z .message-4 .kept .answer ∙ ap done four-made);
             writes-nothing = z .message-4 .kept .len ∙ ap (λ (r : Res Made). length (written (z .message-4 .args .0) r)) four-made;
             opens = z₁;

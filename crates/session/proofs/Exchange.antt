@@ -6,18 +6,18 @@ use mathlib.Core.Bool.{true}
 use mathlib.Core.List.{List, [], _++_}
 use mathlib.Core.Path.{_≡_, refl, sym, _∙_, ap, ap₂}
 use lib.ListN.{length, getD, drop}
-use lib.Seq.{take-at}
 use Rattle.refusal.specs.Order.{refuse, accept}
 use Rattle.sha1.specs.Hash.{hmacSha1}
 use Rattle.sha1.proofs.Laws.{mac-length}
 use Rattle.keys.specs.Codes.{roleName, code2, code3}
 use Rattle.keys.specs.Keys.{keysOf}
 use Rattle.messages.specs.Auth.{isLevel}
-use Rattle.messages.specs.Name.{allowed, nameOf, stored}
+use Rattle.messages.specs.Name.{allowed, stored}
 use Rattle.messages.specs.OpenSession.{Response, openResponse}
 use Rattle.messages.specs.Rakp.{message1, message2, message4}
 use Rattle.messages.specs.declared.«rakp_1».RakpMessage1.{RakpMessage1}
 use Rattle.messages.specs.declared.«rakp_2».RakpMessage2.{RakpMessage2}
+use Rattle.messages.proofs.Names.{stored-whole}
 use Rattle.session.specs.Constants.{openTag, tag1, tag3, role, codeSize, oneSize, threeSize}
 use Rattle.session.specs.Record.{stepNumber, begunOf, begunWith, agreedOf, answered, keyed, opened}
 use Rattle.session.specs.Steps.{Made, levelAllowed, requestOf, madeBegin, oneTo, madeOpen, openOf, who, codeTwo}
@@ -113,7 +113,7 @@ pub record StepsAgree (most : ℕ) (y : System) (asked : Asked) (n rm : List ℕ
   pub named : keyed .next .begun .username .len ≤ 16
   pub opens : Opened y (answered .bytes) (opened (keyed .next))
 
--- the whole: n is the name that counts
+-- the whole: n is the name
 module _ (most : ℕ) (y : System) (r : Regular y) (asked : Asked) (n rm : List ℕ) (room₁ room₃ : ℕ)
     (a : asked .console < 2 ^ 32) (b : asked .console ≡ 0 → ⊥) (d : levelAllowed (asked .level) ≡ true) (l : length n ≤ 16)
     (c : allowed n ≡ true) (k : length rm ≡ 16) (p : length (y .password) ≤ most) (h₁ : oneSize (length n) ≤ room₁) (h₃ : threeSize ≤ room₃) where
@@ -151,13 +151,9 @@ module _ (most : ℕ) (y : System) (r : Regular y) (asked : Asked) (n rm : List 
   abbrev proving : Made
   proving = madeTwo waiting (y .kg) (y .password) (twoSays tag1 (asked .console) (y .random) (y .guid))
 
-  name-is : nameOf (stored n) ≡ n
-  unfolding nameOf stored
-  name-is = take-at n _ (length n) refl
-
   takes-one : TakesOne y (message1 first)
   unfolding begunWith begunOf isLevel
-  takes-one = one-taken first k y refl (r .small) refl (omega arith) (rw name-is l) (rw name-is c)
+  takes-one = one-taken first k y refl (r .small) refl (omega arith) (rw (stored-whole n) l) (rw (stored-whole n) c)
 
   pub exchanged : StepsAgree most y asked n rm room₁ room₃ (madeBegin asked (stored n))
   unfolding madeBegin madeOpen madeTwo answered begunWith begunOf agreedOf agreedIn keyed opened keysIn fourth stored
@@ -177,7 +173,7 @@ module _ (most : ℕ) (y : System) (r : Regular y) (asked : Asked) (n rm : List 
           console = i;
           takes-one = takes-one;
           random = u;
-          who = one-who first k ∙ ap (roleName role) name-is;
+          who = one-who first k ∙ ap (roleName role) (stored-whole n);
           takes-three = takes-three y r waiting request one a b l i refl g u v;
         };
         accepts-response = open-taken;

@@ -191,7 +191,7 @@ module _ (s : RakpMessage1) (e : length (s .random) ≡ 16) where
   unfolding message1
   one-unread = ap (λ (l : List ℕ). part l 17 2) from-rm ∙ part-behind (s .random) (between ++ nameOf (s .username)) 16 1 2 e
 
-  one-count : nameSizeIn (message1 s) ≡ length (nameOf (s .username))
+  pub one-count : nameSizeIn (message1 s) ≡ length (nameOf (s .username))
   unfolding message1
   one-count =
       let n : length (s .random) + 3 ≡ 19 = omega arith in
@@ -199,7 +199,7 @@ module _ (s : RakpMessage1) (e : length (s .random) ≡ 16) where
       ∙ ap (λ (k : ℕ). getD (s .random ++ (between ++ nameOf (s .username))) k 0) (sym n)
       ∙ getD-append-add (s .random) (between ++ nameOf (s .username)) 3 0
 
-  one-rest : drop 28 (message1 s) ≡ nameOf (s .username)
+  pub one-rest : drop 28 (message1 s) ≡ nameOf (s .username)
   unfolding message1
   one-rest =
       let n : length (s .random ++ between) ≡ 20 = simp length-append (omega arith) in
@@ -208,7 +208,7 @@ module _ (s : RakpMessage1) (e : length (s .random) ≡ 16) where
   one-name : nameIn (message1 s) ≡ nameOf (s .username)
   one-name = rw (one-count, one-rest, take-length (nameOf (s .username)))
 
-  one-size : length (message1 s) ≡ 28 + length (nameOf (s .username))
+  pub one-size : length (message1 s) ≡ 28 + length (nameOf (s .username))
   unfolding message1
   one-size = simp length-append (omega arith)
 

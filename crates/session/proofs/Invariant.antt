@@ -4,11 +4,12 @@ use native.Mathlib.Omega.{arith}
 use mathlib.Core.Bool.{Bool, true, false, cond}
 use mathlib.Core.List.{List}
 use mathlib.Core.Path.{_≡_, refl, _∙_, ap}
-use lib.ListN.{length, take, length-take}
-use lib.Seq.{take-at, drop-at}
+use lib.ListN.{length}
+use lib.Seq.{drop-at}
 use Rattle.refusal.specs.Order.{Res, refuse, accept}
 use Rattle.refusal.specs.Table.{among}
 use Rattle.messages.specs.Name.{allowed, nameOf, stored}
+use Rattle.messages.proofs.Names.{stored-whole}
 use Rattle.session.specs.Record.{stepNumber, closed, noneBegun, begunOf, begunWith, answered, keyed, opened}
 use Rattle.session.specs.Steps.{Made, madeBegin, beginOf, openOf, twoOf, fourOf}
 use Rattle.session.specs.Promise.{keeping, recordAfter}
@@ -51,14 +52,14 @@ unfolding begunWith begunOf stored nameOf
 begun-sound asked n l d h =
     record {
       len = l;
-      legal = ap allowed (take-at n _ (length n) refl) ∙ h;
+      legal = ap allowed (stored-whole n) ∙ h;
       past = drop-at n _ (length n) refl;
       console = (λ g z. d z);
       system = (λ g z. omega arith);
       shut = (λ g. absurd (omega arith));
     }
 
-begun-holds : (asked : Asked) (name : List ℕ) → Holds asked name (begunWith (begunOf asked (stored (take 16 name))))
+begun-holds : (asked : Asked) (name : List ℕ) → Holds asked name (begunWith (begunOf asked (stored name)))
 unfolding begunWith
 begun-holds asked name = record { begun = (λ h. refl) }
 
@@ -67,12 +68,11 @@ module _ (asked : Asked) (name : List ℕ) (room : ℕ) where
   unfolding madeBegin
   begin-sound M e =
       let a = begin-tells asked name room M e in
-      let l : length (take 16 name) ≤ 16 = simp length-take (omega arith) in
-      rw (a .2) (begun-sound asked (take 16 name) l (a .0) (a .1))
+      rw (a .3) (begun-sound asked name (a .1) (a .0) (a .2))
 
   pub begin-holds : (M : Made) → beginOf asked name room ≡ accept M → Holds asked name (M .next)
   unfolding madeBegin
-  begin-holds M e = rw (begin-tells asked name room M e .2) (begun-holds asked name)
+  begin-holds M e = rw (begin-tells asked name room M e .3) (begun-holds asked name)
 
 -- a step that goes on keeps what Begin fixed
 module _ (s t : Record) (u : t .begun ≡ s .begun) (b : 1 ≤ stepNumber (s .step)) where

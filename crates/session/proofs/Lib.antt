@@ -10,3 +10,4 @@ pub mod Heard
 pub mod Exchange
 pub mod Only
 pub mod Calls
+pub mod Named

@@ -21,7 +21,7 @@ ready-begin-quiet asked = only-need Quiet _ _ _ _ refl (only-need Quiet _ _ _ _ 
 
 pub username-quiet : (name : List ℕ) → Only Quiet (usernameOf name)
 unfolding usernameOf
-username-quiet name = only-need Quiet _ _ _ _ refl (only-accept Quiet _)
+username-quiet name = only-need Quiet _ _ _ _ refl (only-need Quiet _ _ _ _ refl (only-accept Quiet _))
 
 -- before the message
 pub ready-open-keeps : (s : Record) (room : ℕ) → Only Keeps (readyOpen s room)

@@ -1,11 +1,10 @@
 -- Laws that serve every step: what a refusal of its first stage, of its second, and an acceptance make of the promise.
 use Prim.Native.Nat.{ℕ}
-use mathlib.Core.Bool.{Bool, true, false, not, cond}
+use mathlib.Core.Bool.{Bool, true, false, cond}
 use mathlib.Core.List.{List}
 use mathlib.Core.Path.{_≡_, refl, sym, _∙_}
 use lib.Dec.{eqb}
 use lib.ListN.{length}
-use borrow.Author.Tests.{not-true, not-false}
 use Rattle.refusal.specs.Order.{Res, refuse, accept, need, andThen}
 use Rattle.refusal.specs.Table.{numberOf, valueOf, among}
 use Rattle.refusal.specs.declared.Refusal.{Refusal}
@@ -59,7 +58,7 @@ pub shut : (R : Res Made) (s : Record) (out : List ℕ) (r : Refusal) (y : Recor
 shut R s out r y z e k g f = rw (e, f, g) (record { answer = refl; next = rw (k .0); len = rw (k .1); buffer = rw (k .1) (sym (begun-none out)) })
 
 -- a refused Begin: the record was closed and is
-either-way : (t : Bool) (s : Record) → cond t s s ≡ s
+pub either-way : (t : Bool) (s : Record) → cond t s s ≡ s
 either-way true s = refl
 either-way false s = refl
 
@@ -83,10 +82,3 @@ promise-as R Q s out r x e p = rw e p
 pub step-made : (M : Made) (s : Record) (out : List ℕ) (st : Record) (n : ℕ) (x : List ℕ) → st ≡ M .next → n ≡ length (M .bytes)
     → x ≡ begun (M .bytes) out → StepPromise (accept M) s out (record { state = st; answer = Done; len = n }) x
 step-made M s out st n x e f g = record { answer = refl; next = e; len = f; buffer = g }
-
--- what a negated test says of the definition that its function keeps
-pub test-no : {r t : Bool} → r ≡ t → not r ≡ true → t ≡ false
-test-no {r = r} e h = sym e ∙ not-true r h
-
-pub test-yes : {r t : Bool} → r ≡ t → not r ≡ false → t ≡ true
-test-yes {r = r} e h = sym e ∙ not-false r h

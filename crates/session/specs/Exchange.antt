@@ -12,7 +12,7 @@ use Rattle.refusal.specs.Outcome.{told}
 use Rattle.refusal.specs.declared.Outcome.the-variants.{Done}
 use Rattle.octets.specs.Place.{begun}
 use Rattle.keys.specs.Codes.{roleName}
-use Rattle.messages.specs.Name.{allowed}
+use Rattle.messages.specs.Name.{allowed, longestName}
 use Rattle.messages.specs.OpenSession.{levelByte}
 use Rattle.session.specs.Constants.{role, longestPassword, requestSize, oneSize, threeSize}
 use Rattle.session.specs.Record.{closed, noKeys, noneAgreed}
@@ -36,15 +36,16 @@ abbrev pub sent : Seen → List ℕ
 sent c = take (c .answer .len) (c .left)
 
 -- what the theorem asks for, of the calls that write the request, message 1 and message 3: a system of the Standard whose password is
--- within the limit in force; an id, a level and a name that Begin takes (7.1); outputs as long as the messages
+-- within the limit in force; an id, a level and a name that Begin takes (7.1, 7.14); outputs as long as the messages
 pub record Suits (y : System) (asked : Asked) (name : List ℕ) (request one three : Seen) : Type 0 where
   pub regular : Regular y
   pub password : length (y .password) ≤ longestPassword
   pub console : asked .console ≡ 0 → ⊥
   pub level : levelAllowed (asked .level) ≡ true
-  pub username : allowed (take 16 name) ≡ true
+  pub short : length name ≤ longestName
+  pub username : allowed name ≡ true
   pub room : requestSize ≤ length (request .lent)
-  pub room₁ : oneSize (length (take 16 name)) ≤ length (one .lent)
+  pub room₁ : oneSize (length name) ≤ length (one .lent)
   pub room₃ : threeSize ≤ length (three .lent)
 
 -- a call that was done: it wrote all the bytes that it tells, and those past them are as they were lent
@@ -53,14 +54,14 @@ pub record Wrote (c : Seen) : Type 0 where
   pub len : length (sent c) ≡ c .answer .len
   pub rest : c .left ≡ begun (sent c) (c .lent)
 
--- what the system makes of the three messages: it takes each, and hears the level, the id, RM, the role and the name n
-pub record Hears (y : System) (asked : Asked) (n rm request one three : List ℕ) : Type 0 where
+-- what the system makes of the three messages: it takes each, and hears the level, the id, RM, the role and the name
+pub record Hears (y : System) (asked : Asked) (name rm request one three : List ℕ) : Type 0 where
   pub takes-request : TakesRequest request
   pub level : levelIn request ≡ levelByte (asked .level)
   pub console : sidmIn request ≡ asked .console
   pub takes-one : TakesOne y one
   pub random : rmIn one ≡ rm
-  pub who : whoIn one ≡ roleName role n
+  pub who : whoIn one ≡ roleName role name
   pub takes-three : TakesThree y request one three
 
 -- a record that is open with the system's id, algorithms and keys, so K1 and the AES key
@@ -75,7 +76,7 @@ pub record Exchange (y : System) (asked : Asked) (name rm : List ℕ) (request o
   pub begins : Wrote request
   pub accepts-response : Wrote one
   pub accepts-two : Wrote three
-  pub hears : Hears y asked (take 16 name) rm (sent request) (sent one) (sent three)
+  pub hears : Hears y asked name rm (sent request) (sent one) (sent three)
   pub accepts-four : four .answer ≡ Done
   pub writes-nothing : four .len ≡ 0
   pub opens : Opened y (sent one) (four .state)

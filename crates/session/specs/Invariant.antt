@@ -1,9 +1,9 @@
--- What holds of every record that the steps make (docs/RULES.md, 7.1, 7.2 and 7.6). Proved of them, and asked for by no call.
+-- What holds of every record that the steps make (docs/RULES.md, 7.1, 7.2, 7.6 and 7.14). Proved of them, and asked for by no call.
 use Prim.Native.Nat.{ℕ, _-_, _≤_}
 use mathlib.Core.Bool.{true}
 use mathlib.Core.List.{List}
 use mathlib.Core.Path.{_≡_}
-use lib.ListN.{take, drop, replicate}
+use lib.ListN.{drop, replicate}
 use Rattle.messages.specs.Name.{allowed, nameOf, stored}
 use Rattle.session.specs.Record.{stepNumber, closed, begunOf}
 use Rattle.session.specs.Steps.{beginOf, openOf, twoOf, fourOf}
@@ -23,7 +23,7 @@ pub record Sound (s : Record) : Type 0 where
 
 -- what Begin fixed is what it was given, until the record closes
 pub record Holds (asked : Asked) (name : List ℕ) (s : Record) : Type 0 where
-  pub begun : 1 ≤ stepNumber (s .step) → s .begun ≡ begunOf asked (stored (take 16 name))
+  pub begun : 1 ≤ stepNumber (s .step) → s .begun ≡ begunOf asked (stored name)
 
 -- the records that the steps make, in any order, after a Begin with this request and this name
 pub data Reached (asked : Asked) (name : List ℕ) : Record → Type 0 where

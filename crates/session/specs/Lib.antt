@@ -5,4 +5,5 @@ pub mod Parts
 pub mod Promise
 pub mod Invariant
 pub mod System
+pub mod Named
 pub mod Exchange

@@ -4,7 +4,7 @@ use Rattle.messages.specs.Answers.{told4}
 use mathlib.Core.Path.{sym, _∙_, ap}
 use Rattle.session.proofs.Makes.{value-in, same-four}
 use Rattle.session.proofs.Chains.{four27, four28, four32, four-heard, heard-four-refused}
-use Rattle.session.proofs.Stages.{test-no, test-yes}
+use Rattle.messages.proofs.Tests.{test-no, test-yes}
 use borrow.Author.Needs.{needs}
 use Rattle.session.proofs.checking.check_message.Statement.{statement}
 use Rattle.session.proofs.checking.check_message.Tie as tie

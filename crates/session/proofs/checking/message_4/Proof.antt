@@ -8,7 +8,8 @@ use mathlib.Core.Path.{refl, sym, _∙_, ap}
 use Rattle.refusal.proofs.Order.{then-refuse, done-no, done-yes}
 use Rattle.session.proofs.Chains.{four33, four-ready}
 use Rattle.session.proofs.Refusals.{ready-four-keeps, heard-four-shuts}
-use Rattle.session.proofs.Stages.{kept, shut, second-stop, second-go, promise-as, step-made, test-no, test-yes}
+use Rattle.messages.proofs.Tests.{test-no, test-yes}
+use Rattle.session.proofs.Stages.{kept, shut, second-stop, second-go, promise-as, step-made}
 use borrow.Author.Needs.{needs}
 use Rattle.session.proofs.checking.message_4.Statement.{statement}
 use Rattle.session.proofs.checking.message_4.Tie as tie

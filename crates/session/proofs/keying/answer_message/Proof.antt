@@ -2,7 +2,8 @@
 use Rattle.session.specs.Steps.{provedTwo}
 use mathlib.Core.Path.{refl}
 use Rattle.refusal.proofs.Order.{need-no, pass}
-use Rattle.session.proofs.Stages.{promise-as, test-no, test-yes}
+use Rattle.messages.proofs.Tests.{test-no, test-yes}
+use Rattle.session.proofs.Stages.{promise-as}
 use borrow.Author.Needs.{needs}
 use Rattle.session.proofs.keying.answer_message.Statement.{statement}
 use Rattle.session.proofs.keying.answer_message.Tie as tie

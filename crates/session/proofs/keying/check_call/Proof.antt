@@ -1,7 +1,7 @@
 -- `check_call` keeps its promise: one law for each answer.
 use Rattle.session.specs.Constants.{longestPassword}
 use Rattle.session.proofs.Chains.{two33, two35, two36, two15, two-ready}
-use Rattle.session.proofs.Stages.{test-no, test-yes}
+use Rattle.messages.proofs.Tests.{test-no, test-yes}
 use borrow.Author.Needs.{needs}
 use Rattle.session.proofs.keying.check_call.Statement.{statement}
 use Rattle.session.proofs.keying.check_call.Tie as tie

@@ -1,7 +1,7 @@
 -- `check_call` keeps its promise: one law for each answer.
 use native.Mathlib.Omega.{arith}
 use Rattle.session.proofs.Chains.{open33, open15, open-ready, in-len}
-use Rattle.session.proofs.Stages.{test-no, test-yes}
+use Rattle.messages.proofs.Tests.{test-no, test-yes}
 use borrow.Author.Needs.{needs}
 use Rattle.session.proofs.response.check_call.Statement.{statement}
 use Rattle.session.proofs.response.check_call.Tie as tie

@@ -2,7 +2,7 @@
 use Rattle.messages.specs.Answers.{toldOpen}
 use mathlib.Core.Path.{sym, _∙_, ap}
 use Rattle.session.proofs.Chains.{open27, open28, open29, open-heard, heard-open-refused}
-use Rattle.session.proofs.Stages.{test-no, test-yes}
+use Rattle.messages.proofs.Tests.{test-no, test-yes}
 use borrow.Author.Needs.{needs}
 use Rattle.session.proofs.response.read_response.Statement.{statement}
 use Rattle.session.proofs.response.read_response.Tie as tie

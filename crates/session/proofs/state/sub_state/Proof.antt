@@ -1,6 +1,6 @@
 -- `sub_state` keeps its promise: one law for each answer.
 use Rattle.session.proofs.Makes.{session-no, session-yes}
-use Rattle.session.proofs.Stages.{test-no, test-yes}
+use Rattle.messages.proofs.Tests.{test-no, test-yes}
 use borrow.Author.Needs.{needs}
 use Rattle.session.proofs.state.sub_state.Statement.{statement}
 use Rattle.session.proofs.state.sub_state.Tie as tie

@@ -5,7 +5,7 @@ from cases_steps import at, calls, good, script, steps
 from drawn import Word, line
 
 SIXTEEN = b"render-desk-nigh"
-# around the limit, and lengths that are 16 or less modulo 256 or 65,536
+# around the limit, and around 0 and 16 modulo 256 and 65,536
 LENGTHS = (16, 17, 18, 19, 32, 255, 256, 257, 271, 272, 273, 512, 528, 65535, 65536, 65537, 65552, 65553)
 
 

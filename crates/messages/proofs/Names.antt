@@ -1,4 +1,4 @@
--- Laws of names: one for each return of the functions that make one or ask its length.
+-- Laws of names: one for each return of the functions that make one or ask its length; and what a name is that was taken.
 use Prim.Native.Nat.{ℕ, suc, _+_, _-_, _<_, _≤_}
 use native.Mathlib.Omega.{arith}
 use native.Mathlib.Numerals.{add-one}

@@ -41,7 +41,7 @@ use Rattle.session.proofs.Invariant.{reached-sound, reached-holds}
 use Rattle.session.proofs.Heard.{one-size, one-count, one-rest}
 use Rattle.session.proofs.Calls.{BeginCall, OpenCall, TwoCall, FourCall, nameLent, seenBegin, seenOpen, random-sixteen, made-sent}
 
--- a record that waits for a step or is open holds the name that Begin was given, and every code is made with it
+-- a record that waits for a step or is open holds the name that Begin was given, and N is made of it
 module _ (asked : Asked) (name : List ℕ) (s : Record) (r : Reached asked name s) (h : 1 ≤ stepNumber (s .step)) where
   pub name-held : nameOf (s .begun .username) ≡ name
   unfolding begunOf

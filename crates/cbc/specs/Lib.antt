@@ -1,2 +1,3 @@
 pub mod Cbc
 pub mod Promise
+pub mod Halves

@@ -1,0 +1,83 @@
+-- CBC by halves: the law for encryption and the law for decryption, each an instance of the law of the run over joined blocks.
+use Prim.Native.Nat.{ℕ, zero, suc, _+_, _*_, _-_, _/_, _%_, _≤_}
+use native.Mathlib.Omega.{arith}
+use mathlib.Core.Path.{_≡_, refl, sym, _∙_, ap, ap₂}
+use mathlib.Core.List.{List, [], _∷_, _++_, append-nil}
+use lib.ListN.{length, take, drop, length-append, length-drop, take-append-drop}
+use lib.Seq.{length-take-le, drop-append-add}
+use Rattle.octets.proofs.Place.{none-left}
+use Rattle.aes.specs.Key.{keyExpansion}
+use Rattle.cbc.specs.Cbc.{encryptBlocks, decryptBlocks, cbcEncrypt, cbcDecrypt}
+use Rattle.cbc.specs.Halves.{handedOn, afterEncrypt, afterDecrypt, ByHalves}
+use Rattle.cbc.proofs.Run.{run, chained, run-join, sealed, opened, kept, sealed-length, encrypt-run, decrypt-run}
+
+-- behind a block and more blocks it does not matter what stood before them
+pub handed-behind : (v x l : List ℕ) (n : ℕ) → length x ≡ 16 → length l ≡ 16 * n → handedOn v (x ++ l) ≡ handedOn x l
+unfolding handedOn
+handed-behind v [] l n h e = absurd (omega arith)
+handed-behind v (y ∷ x) [] n h e =
+    let z : length (y ∷ x ++ []) - 16 ≡ 0 = omega (arith, length-append (y ∷ x) []) in
+    ap (λ (k : ℕ). drop k (y ∷ x ++ [])) z ∙ append-nil (y ∷ x)
+handed-behind v (y ∷ x) (z ∷ l) n h e =
+    let k : length ((y ∷ x) ++ (z ∷ l)) - 16 ≡ length (y ∷ x) + (length (z ∷ l) - 16) = omega (arith, length-append (y ∷ x) (z ∷ l)) in
+    ap (λ (k : ℕ). drop k ((y ∷ x) ++ (z ∷ l))) k ∙ drop-append-add (y ∷ x) (z ∷ l) (length (z ∷ l) - 16)
+
+module _ (next : List ℕ → List ℕ → List ℕ) (hn : (v b : List ℕ) → length b ≡ 16 → length (next v b) ≡ 16) where
+  chain-length : (v : List ℕ) (n : ℕ) (d : List ℕ) → length d ≡ 16 * n → length (run next next v n d) ≡ 16 * n
+  unfolding run
+  chain-length v zero d h = refl
+  chain-length v (suc n) d h =
+      omega (arith, length-append (next v (take 16 d)) (run next next (next v (take 16 d)) n (drop 16 d)),
+      hn v (take 16 d) (length-take-le 16 d (omega arith)),
+      chain-length (next v (take 16 d)) n (drop 16 d) (omega (arith, length-drop 16 d)))
+
+  -- what a run chains on is handed on behind all that it chains
+  chained-last : (out : List ℕ → List ℕ → List ℕ) (v : List ℕ) (n : ℕ) (d : List ℕ) → length d ≡ 16 * n
+      → chained out next v n d ≡ handedOn v (run next next v n d)
+  unfolding chained run handedOn
+  chained-last out v zero d h = refl
+  chained-last out v (suc n) d h =
+      let c : List ℕ = next v (take 16 d) in
+      let e : length (drop 16 d) ≡ 16 * n = omega (arith, length-drop 16 d) in
+      chained-last out c n (drop 16 d) e
+      ∙ sym (handed-behind v c _ n (hn v (take 16 d) (length-take-le 16 d (omega arith))) (chain-length c n (drop 16 d) e))
+
+-- the law of the run, for what is a run over whole messages
+module _ (out next : List ℕ → List ℕ → List ℕ) (f : List ℕ → ℕ → List ℕ → List ℕ) (e : (v : List ℕ) (n : ℕ) (d : List ℕ) → f v n d ≡ run out next v n d) where
+  halves : (v a b : List ℕ) → length a % 16 ≡ 0
+      → f v (length (a ++ b) / 16) (a ++ b) ≡ f v (length a / 16) a ++ f (chained out next v (length a / 16) a) (length b / 16) b
+  halves v a b h =
+      let m : ℕ = length a / 16 in
+      let n : ℕ = length b / 16 in
+      let q : length (a ++ b) / 16 ≡ m + n = omega (arith, length-append a b) in
+      let g : length a ≡ 16 * m = omega arith in
+      ap (λ (k : ℕ). f v k (a ++ b)) q ∙ e v (m + n) (a ++ b) ∙ run-join out next v m n a b g
+      ∙ ap₂ _++_ (sym (e v m a)) (sym (e (chained out next v m a) n b))
+
+pub encrypt-halves : (key iv : List ℕ) → ByHalves (cbcEncrypt key) (afterEncrypt key) iv
+unfolding cbcEncrypt
+encrypt-halves key iv a b h g =
+    let w : List ℕ = keyExpansion key in
+    let m : ℕ = length a / 16 in
+    let c : chained (sealed w) (sealed w) iv m a ≡ handedOn iv (cbcEncrypt key iv a) =
+    chained-last (sealed w) (λ v x l. sealed-length w v x) (sealed w) iv m a (omega arith) ∙ ap (handedOn iv) (sym (encrypt-run w iv m a)) in
+    halves (sealed w) (sealed w) (encryptBlocks w) (encrypt-run w) iv a b h
+    ∙ ap (λ (v : List ℕ). cbcEncrypt key iv a ++ cbcEncrypt key v b) c
+
+-- decryption chains on the blocks that it is given
+all-kept : (v : List ℕ) (n : ℕ) (d : List ℕ) → length d ≡ 16 * n → run kept kept v n d ≡ d
+unfolding run
+all-kept v zero d h = none-left d h
+all-kept v (suc n) d h =
+    ap (λ (x : List ℕ). take 16 d ++ x) (all-kept (take 16 d) n (drop 16 d) (omega (arith, length-drop 16 d))) ∙ take-append-drop 16 d
+
+pub decrypt-halves : (key iv : List ℕ) → ByHalves (cbcDecrypt key) (afterDecrypt key) iv
+unfolding cbcDecrypt
+decrypt-halves key iv a b h g =
+    let w : List ℕ = keyExpansion key in
+    let m : ℕ = length a / 16 in
+    let l : length a ≡ 16 * m = omega arith in
+    let c : chained (opened w) kept iv m a ≡ handedOn iv a =
+    chained-last kept (λ v x e. e) (opened w) iv m a l ∙ ap (handedOn iv) (all-kept iv m a l) in
+    halves (opened w) kept (decryptBlocks w) (decrypt-run w) iv a b h
+    ∙ ap (λ (v : List ℕ). cbcDecrypt key iv a ++ cbcDecrypt key v b) c

@@ -4,12 +4,23 @@ use native.Mathlib.Omega.{arith}
 use mathlib.Core.Path.{_≡_, refl, sym, _∙_, ap, ap₂}
 use mathlib.Core.List.{List, [], _∷_, _++_, append-nil}
 use lib.ListN.{length, take, drop, length-append, length-drop, take-append-drop}
-use lib.Seq.{length-take-le, drop-append-add}
+use lib.Seq.{length-take-le, drop-append-seam, drop-append-add}
 use Rattle.octets.proofs.Place.{none-left}
 use Rattle.aes.specs.Key.{keyExpansion}
 use Rattle.cbc.specs.Cbc.{encryptBlocks, decryptBlocks, cbcEncrypt, cbcDecrypt}
 use Rattle.cbc.specs.Halves.{handedOn, afterEncrypt, afterDecrypt, ByHalves}
 use Rattle.cbc.proofs.Run.{run, chained, run-join, sealed, opened, kept, sealed-length, encrypt-run, decrypt-run}
+
+-- what is handed on is the last block
+pub handed-last : (v a b : List ℕ) → length b ≡ 16 → handedOn v (a ++ b) ≡ b
+unfolding handedOn
+handed-last v [] [] h = absurd (omega arith)
+handed-last v [] (y ∷ b) h =
+    let z : length (y ∷ b) - 16 ≡ 0 = omega arith in
+    ap (λ (k : ℕ). drop k (y ∷ b)) z
+handed-last v (x ∷ a) b h =
+    let k : length ((x ∷ a) ++ b) - 16 ≡ length (x ∷ a) = omega (arith, length-append (x ∷ a) b) in
+    ap (λ (k : ℕ). drop k ((x ∷ a) ++ b)) k ∙ drop-append-seam (x ∷ a) b
 
 -- behind a block and more blocks it does not matter what stood before them
 pub handed-behind : (v x l : List ℕ) (n : ℕ) → length x ≡ 16 → length l ≡ 16 * n → handedOn v (x ++ l) ≡ handedOn x l

@@ -4,7 +4,8 @@ use native.Mathlib.Omega.{arith}
 use mathlib.Core.Path.{_≡_, refl, sym, _∙_, ap, ap₂}
 use mathlib.Core.List.{List, [], _∷_, _++_, append-nil}
 use lib.ListN.{length, take, drop, length-append, length-drop, take-append-drop}
-use lib.Seq.{length-take-le, drop-append-seam, drop-append-add}
+use lib.Seq.{length-take-le, take-all, drop-append-seam, drop-append-add}
+use Rattle.octets.specs.Place.{part}
 use Rattle.octets.proofs.Place.{none-left}
 use Rattle.aes.specs.Key.{keyExpansion}
 use Rattle.cbc.specs.Cbc.{encryptBlocks, decryptBlocks, cbcEncrypt, cbcDecrypt}
@@ -22,6 +23,16 @@ handed-last v (x ∷ a) b h =
     let k : length ((x ∷ a) ++ b) - 16 ≡ length (x ∷ a) = omega (arith, length-append (x ∷ a) b) in
     ap (λ (k : ℕ). drop k ((x ∷ a) ++ b)) k ∙ drop-append-seam (x ∷ a) b
 
+-- as a caller finds it in a buffer
+pub handed-none : (v c : List ℕ) → length c ≡ 0 → v ≡ handedOn v c
+unfolding handedOn
+handed-none v c h = ap (handedOn v) (none-left c h)
+
+pub handed-part : (v c : List ℕ) → 16 ≤ length c → part c (length c - 16) 16 ≡ handedOn v c
+unfolding handedOn
+handed-part v [] h = absurd (omega arith)
+handed-part v (x ∷ c) h = take-all 16 (drop (length (x ∷ c) - 16) (x ∷ c)) (omega (arith, length-drop (length (x ∷ c) - 16) (x ∷ c)))
+
 -- behind a block and more blocks it does not matter what stood before them
 pub handed-behind : (v x l : List ℕ) (n : ℕ) → length x ≡ 16 → length l ≡ 16 * n → handedOn v (x ++ l) ≡ handedOn x l
 unfolding handedOn
@@ -38,9 +49,12 @@ module _ (next : List ℕ → List ℕ → List ℕ) (hn : (v b : List ℕ) → 
   unfolding run
   chain-length v zero d h = refl
   chain-length v (suc n) d h =
-      omega (arith, length-append (next v (take 16 d)) (run next next (next v (take 16 d)) n (drop 16 d)),
-      hn v (take 16 d) (length-take-le 16 d (omega arith)),
-      chain-length (next v (take 16 d)) n (drop 16 d) (omega (arith, length-drop 16 d)))
+      omega (
+        arith,
+        length-append (next v (take 16 d)) (run next next (next v (take 16 d)) n (drop 16 d)),
+        hn v (take 16 d) (length-take-le 16 d (omega arith)),
+        chain-length (next v (take 16 d)) n (drop 16 d) (omega (arith, length-drop 16 d)),
+      )
 
   -- what a run chains on is handed on behind all that it chains
   chained-last : (out : List ℕ → List ℕ → List ℕ) (v : List ℕ) (n : ℕ) (d : List ℕ) → length d ≡ 16 * n

@@ -44,12 +44,12 @@ module _ (f after : List ℕ → List ℕ → List ℕ → List ℕ) (law : (key
       record {
         answer = outcome-one _ _ (r .answer ∙ answer-alike _ _ _ _ l ∙ sym (q .answer));
         left = λ d.
-          let g : length (second .lent) % 16 ≡ 0 = done-whole _ _ _ _ d q in
-          cbc-done _ _ _ _ (l ∙ g) r
-          ∙ (λ i. f (sym (t .first-key) i) (sym (t .first-iv) i) (t .parts i))
-          ∙ law (first .key) (first .iv) (first .lent) (second .lent) h g
-          ∙ ap₂ _++_ (sym (cbc-done _ _ _ _ h p))
-          ((λ i. f ((t .first-key ∙ sym (t .second-key)) i) (sym (t .second-iv ∙ e) i) (second .lent)) ∙ sym (cbc-done _ _ _ _ g q));
+            let g : length (second .lent) % 16 ≡ 0 = done-whole _ _ _ _ d q in
+            cbc-done _ _ _ _ (l ∙ g) r
+            ∙ (λ i. f (sym (t .first-key) i) (sym (t .first-iv) i) (t .parts i))
+            ∙ law (first .key) (first .iv) (first .lent) (second .lent) h g
+            ∙ ap₂ _++_ (sym (cbc-done _ _ _ _ h p))
+            ((λ i. f ((t .first-key ∙ sym (t .second-key)) i) (sym (t .second-iv ∙ e) i) (second .lent)) ∙ sym (cbc-done _ _ _ _ g q));
       }
 
 pub encrypt-as-one : (first second whole : EncryptCall) → TwoGoes (λ s. s .left) (seenEncrypt first) (seenEncrypt second) (seenEncrypt whole)

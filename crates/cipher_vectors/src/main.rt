@@ -1,6 +1,10 @@
 // The vectors of FIPS 197 and SP 800-38A, and random ones from another implementation: what this prints is compared.
-ghost use Prim.Native.Nat.{_<_};
+ghost use Prim.Native.Nat.{_%_, _<_};
 ghost use mathlib.Core.Path.{_≡_};
+ghost use lib.ListN.{length};
+ghost use Rattle.cbc.specs.Cbc.{cbcEncrypt, cbcDecrypt};
+ghost use Rattle.cbc.specs.Halves.{handedOn, afterEncrypt, afterDecrypt};
+ghost use Rattle.cipher_vectors.specs.InTwo.{Went, Cut};
 use aes::Aes128;
 use libc::STDOUT_FILENO;
 use refusal::Outcome;
@@ -139,6 +143,72 @@ fn go_there_and_back(key: [u8; 16], iv: [u8; 16], s: &mut [u8]) {
     show_end(s);
 }
 
+// The block that is handed on behind a cipher text of whole blocks.
+fn hand_on(iv: [u8; 16], c: &[u8]) -> [u8; 16]
+    requires { ⌜ length (now c) % 16 ≡ 0 ⌝ }
+    ensures { λ r. ⌜ r ≡ handedOn iv (now (c .entry)) ⌝ }
+{
+    if c.len() == 0 {
+        return iv;
+    }
+    octets::block(c, c.len() - 16)
+}
+
+// One go over whole blocks, and the IV of the next: the cipher text is what the go makes.
+fn encrypt_and_hand_on(key: [u8; 16], iv: [u8; 16], s: &mut [u8]) -> [u8; 16]
+    requires { ⌜ length (now s) % 16 ≡ 0 ⌝ }
+    ensures { λ r. ⌜ Went (cbcEncrypt key) (afterEncrypt key) iv (now (s .entry)) r (now (s .exit)) ⌝ }
+{
+    cbc::cbc_encrypt(key, iv, s);
+    hand_on(iv, s)
+}
+
+// The same the other way: the cipher text is gone once the go is made.
+fn decrypt_and_hand_on(key: [u8; 16], iv: [u8; 16], s: &mut [u8]) -> [u8; 16]
+    requires { ⌜ length (now s) % 16 ≡ 0 ⌝ }
+    ensures { λ r. ⌜ Went (cbcDecrypt key) (afterDecrypt key) iv (now (s .entry)) r (now (s .exit)) ⌝ }
+{
+    let next = hand_on(iv, s);
+    cbc::cbc_decrypt(key, iv, s);
+    next
+}
+
+// Whole blocks in two goes, the first over k bytes, are what one call makes of them.
+fn encrypt_in_two(key: [u8; 16], iv: [u8; 16], k: usize, s: &mut [u8])
+    requires { ⌜ Cut k (now s) ⌝ }
+    ensures { λ _. ⌜ now (s .exit) ≡ cbcEncrypt key iv (now (s .entry)) ⌝ }
+{
+    let next = encrypt_and_hand_on(key, iv, &mut s[..k]);
+    encrypt_and_hand_on(key, next, &mut s[k..]);
+}
+
+fn decrypt_in_two(key: [u8; 16], iv: [u8; 16], k: usize, s: &mut [u8])
+    requires { ⌜ Cut k (now s) ⌝ }
+    ensures { λ _. ⌜ now (s .exit) ≡ cbcDecrypt key iv (now (s .entry)) ⌝ }
+{
+    let next = decrypt_and_hand_on(key, iv, &mut s[..k]);
+    decrypt_and_hand_on(key, next, &mut s[k..]);
+}
+
+fn show_in_two(key: [u8; 16], iv: [u8; 16], k: usize, s: &mut [u8])
+    requires { ⌜ Cut k (now s) ⌝ }
+{
+    encrypt_in_two(key, iv, k, s);
+    show(s);
+    decrypt_in_two(key, iv, k, s);
+    show(s);
+}
+
+// A text of four blocks, there and back in two goes, cut at every block.
+fn show_halves(key: [u8; 16], iv: [u8; 16], text: [u8; 64]) {
+    let mut s = text;
+    let mut i: usize = 0;
+    while i <= 4 {
+        show_in_two(key, iv, 16 * i, &mut s);
+        i += 1;
+    }
+}
+
 fn fill(s: &mut [u8]) {
     let mut i: usize = 0;
     while i < s.len() {
@@ -183,10 +253,8 @@ fn main() {
         \xae\x2d\x8a\x57\x1e\x03\xac\x9c\x9e\xb7\x6f\xac\x45\xaf\x8e\x51\
         \x30\xc8\x1c\x46\xa3\x5c\xe4\x11\xe5\xfb\xc1\x19\x1a\x0a\x52\xef\
         \xf6\x9f\x24\x45\xdf\x4f\x9b\x17\xad\x2b\x41\x7b\xe6\x6c\x37\x10";
-    go_there_and_back(
-        key,
-        *b"\x00\x01\x02\x03\x04\x05\x06\x07\x08\x09\x0a\x0b\x0c\x0d\x0e\x0f",
-        &mut s,
-    );
+    let iv: [u8; 16] = *b"\x00\x01\x02\x03\x04\x05\x06\x07\x08\x09\x0a\x0b\x0c\x0d\x0e\x0f";
+    go_there_and_back(key, iv, &mut s);
+    show_halves(key, iv, s);
     run_all();
 }

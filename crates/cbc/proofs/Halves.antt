@@ -37,9 +37,7 @@ handed-part v (x ∷ c) h = take-all 16 (drop (length (x ∷ c) - 16) (x ∷ c))
 pub handed-behind : (v x l : List ℕ) (n : ℕ) → length x ≡ 16 → length l ≡ 16 * n → handedOn v (x ++ l) ≡ handedOn x l
 unfolding handedOn
 handed-behind v [] l n h e = absurd (omega arith)
-handed-behind v (y ∷ x) [] n h e =
-    let z : length (y ∷ x ++ []) - 16 ≡ 0 = omega (arith, length-append (y ∷ x) []) in
-    ap (λ (k : ℕ). drop k (y ∷ x ++ [])) z ∙ append-nil (y ∷ x)
+handed-behind v (y ∷ x) [] n h e = ap (handedOn v) (append-nil (y ∷ x)) ∙ handed-last v [] (y ∷ x) h
 handed-behind v (y ∷ x) (z ∷ l) n h e =
     let k : length ((y ∷ x) ++ (z ∷ l)) - 16 ≡ length (y ∷ x) + (length (z ∷ l) - 16) = omega (arith, length-append (y ∷ x) (z ∷ l)) in
     ap (λ (k : ℕ). drop k ((y ∷ x) ++ (z ∷ l))) k ∙ drop-append-add (y ∷ x) (z ∷ l) (length (z ∷ l) - 16)
@@ -57,35 +55,34 @@ module _ (next : List ℕ → List ℕ → List ℕ) (hn : (v b : List ℕ) → 
       )
 
   -- what a run chains on is handed on behind all that it chains
-  chained-last : (out : List ℕ → List ℕ → List ℕ) (v : List ℕ) (n : ℕ) (d : List ℕ) → length d ≡ 16 * n
-      → chained out next v n d ≡ handedOn v (run next next v n d)
+  chained-last : (v : List ℕ) (n : ℕ) (d : List ℕ) → length d ≡ 16 * n → chained next v n d ≡ handedOn v (run next next v n d)
   unfolding chained run handedOn
-  chained-last out v zero d h = refl
-  chained-last out v (suc n) d h =
+  chained-last v zero d h = refl
+  chained-last v (suc n) d h =
       let c : List ℕ = next v (take 16 d) in
       let e : length (drop 16 d) ≡ 16 * n = omega (arith, length-drop 16 d) in
-      chained-last out c n (drop 16 d) e
+      chained-last c n (drop 16 d) e
       ∙ sym (handed-behind v c _ n (hn v (take 16 d) (length-take-le 16 d (omega arith))) (chain-length c n (drop 16 d) e))
 
 -- the law of the run, for what is a run over whole messages
 module _ (out next : List ℕ → List ℕ → List ℕ) (f : List ℕ → ℕ → List ℕ → List ℕ) (e : (v : List ℕ) (n : ℕ) (d : List ℕ) → f v n d ≡ run out next v n d) where
   halves : (v a b : List ℕ) → length a % 16 ≡ 0
-      → f v (length (a ++ b) / 16) (a ++ b) ≡ f v (length a / 16) a ++ f (chained out next v (length a / 16) a) (length b / 16) b
+      → f v (length (a ++ b) / 16) (a ++ b) ≡ f v (length a / 16) a ++ f (chained next v (length a / 16) a) (length b / 16) b
   halves v a b h =
       let m : ℕ = length a / 16 in
       let n : ℕ = length b / 16 in
       let q : length (a ++ b) / 16 ≡ m + n = omega (arith, length-append a b) in
       let g : length a ≡ 16 * m = omega arith in
       ap (λ (k : ℕ). f v k (a ++ b)) q ∙ e v (m + n) (a ++ b) ∙ run-join out next v m n a b g
-      ∙ ap₂ _++_ (sym (e v m a)) (sym (e (chained out next v m a) n b))
+      ∙ ap₂ _++_ (sym (e v m a)) (sym (e (chained next v m a) n b))
 
 pub encrypt-halves : (key iv : List ℕ) → ByHalves (cbcEncrypt key) (afterEncrypt key) iv
 unfolding cbcEncrypt
 encrypt-halves key iv a b h g =
     let w : List ℕ = keyExpansion key in
     let m : ℕ = length a / 16 in
-    let c : chained (sealed w) (sealed w) iv m a ≡ handedOn iv (cbcEncrypt key iv a) =
-    chained-last (sealed w) (λ v x l. sealed-length w v x) (sealed w) iv m a (omega arith) ∙ ap (handedOn iv) (sym (encrypt-run w iv m a)) in
+    let c : chained (sealed w) iv m a ≡ handedOn iv (cbcEncrypt key iv a) =
+    chained-last (sealed w) (λ v x l. sealed-length w v x) iv m a (omega arith) ∙ ap (handedOn iv) (sym (encrypt-run w iv m a)) in
     halves (sealed w) (sealed w) (encryptBlocks w) (encrypt-run w) iv a b h
     ∙ ap (λ (v : List ℕ). cbcEncrypt key iv a ++ cbcEncrypt key v b) c
 
@@ -102,7 +99,7 @@ decrypt-halves key iv a b h g =
     let w : List ℕ = keyExpansion key in
     let m : ℕ = length a / 16 in
     let l : length a ≡ 16 * m = omega arith in
-    let c : chained (opened w) kept iv m a ≡ handedOn iv a =
-    chained-last kept (λ v x e. e) (opened w) iv m a l ∙ ap (handedOn iv) (all-kept iv m a l) in
+    let c : chained kept iv m a ≡ handedOn iv a =
+    chained-last kept (λ v x e. e) iv m a l ∙ ap (handedOn iv) (all-kept iv m a l) in
     halves (opened w) kept (decryptBlocks w) (decrypt-run w) iv a b h
     ∙ ap (λ (v : List ℕ). cbcDecrypt key iv a ++ cbcDecrypt key v b) c

@@ -10,7 +10,7 @@ use Rattle.octets.proofs.Place.{none-left}
 use Rattle.aes.specs.Key.{keyExpansion}
 use Rattle.cbc.specs.Cbc.{encryptBlocks, decryptBlocks, cbcEncrypt, cbcDecrypt}
 use Rattle.cbc.specs.Halves.{handedOn, afterEncrypt, afterDecrypt, ByHalves}
-use Rattle.cbc.proofs.Run.{run, chained, run-join, sealed, opened, kept, sealed-length, encrypt-run, decrypt-run}
+use Rattle.cbc.proofs.Run.{run, chained, run-join, run-length, sealed, opened, kept, sealed-length, encrypt-run, decrypt-run}
 
 -- what is handed on is the last block
 pub handed-last : (v a b : List ℕ) → length b ≡ 16 → handedOn v (a ++ b) ≡ b
@@ -42,30 +42,28 @@ handed-behind v (y ∷ x) (z ∷ l) n h e =
     let k : length ((y ∷ x) ++ (z ∷ l)) - 16 ≡ length (y ∷ x) + (length (z ∷ l) - 16) = omega (arith, length-append (y ∷ x) (z ∷ l)) in
     ap (λ (k : ℕ). drop k ((y ∷ x) ++ (z ∷ l))) k ∙ drop-append-add (y ∷ x) (z ∷ l) (length (z ∷ l) - 16)
 
-module _ (next : List ℕ → List ℕ → List ℕ) (hn : (v b : List ℕ) → length b ≡ 16 → length (next v b) ≡ 16) where
-  chain-length : (v : List ℕ) (n : ℕ) (d : List ℕ) → length d ≡ 16 * n → length (run next next v n d) ≡ 16 * n
-  unfolding run
-  chain-length v zero d h = refl
-  chain-length v (suc n) d h =
-      omega (
-        arith,
-        length-append (next v (take 16 d)) (run next next (next v (take 16 d)) n (drop 16 d)),
-        hn v (take 16 d) (length-take-le 16 d (omega arith)),
-        chain-length (next v (take 16 d)) n (drop 16 d) (omega (arith, length-drop 16 d)),
-      )
+-- what a run chains on is handed on behind all that it chains, where it makes what it chains
+made-last : (next : List ℕ → List ℕ → List ℕ) → ((v b : List ℕ) → length (next v b) ≡ 16) → (v : List ℕ) (n : ℕ) (d : List ℕ)
+    → chained next v n d ≡ handedOn v (run next next v n d)
+unfolding chained run handedOn
+made-last next h v zero d = refl
+made-last next h v (suc n) d =
+    let c : List ℕ = next v (take 16 d) in
+    made-last next h c n (drop 16 d) ∙ sym (handed-behind v c _ n (h v (take 16 d)) (run-length next next h c n (drop 16 d)))
 
-  -- what a run chains on is handed on behind all that it chains
-  chained-last : (v : List ℕ) (n : ℕ) (d : List ℕ) → length d ≡ 16 * n → chained next v n d ≡ handedOn v (run next next v n d)
-  unfolding chained run handedOn
-  chained-last v zero d h = refl
-  chained-last v (suc n) d h =
-      let c : List ℕ = next v (take 16 d) in
-      let e : length (drop 16 d) ≡ 16 * n = omega (arith, length-drop 16 d) in
-      chained-last c n (drop 16 d) e
-      ∙ sym (handed-behind v c _ n (hn v (take 16 d) (length-take-le 16 d (omega arith))) (chain-length c n (drop 16 d) e))
+-- and where it is given it
+kept-last : (v : List ℕ) (n : ℕ) (d : List ℕ) → length d ≡ 16 * n → chained kept v n d ≡ handedOn v d
+unfolding chained
+kept-last v zero d h = handed-none v d h
+kept-last v (suc n) d h =
+    let e : length (drop 16 d) ≡ 16 * n = omega (arith, length-drop 16 d) in
+    kept-last (take 16 d) n (drop 16 d) e
+    ∙ sym (handed-behind v (take 16 d) (drop 16 d) n (length-take-le 16 d (omega arith)) e)
+    ∙ ap (handedOn v) (take-append-drop 16 d)
 
 -- the law of the run, for what is a run over whole messages
-module _ (out next : List ℕ → List ℕ → List ℕ) (f : List ℕ → ℕ → List ℕ → List ℕ) (e : (v : List ℕ) (n : ℕ) (d : List ℕ) → f v n d ≡ run out next v n d) where
+module _ (out next : List ℕ → List ℕ → List ℕ) (f : List ℕ → ℕ → List ℕ → List ℕ)
+    (e : (v : List ℕ) (n : ℕ) (d : List ℕ) → f v n d ≡ run out next v n d) where
   halves : (v a b : List ℕ) → length a % 16 ≡ 0
       → f v (length (a ++ b) / 16) (a ++ b) ≡ f v (length a / 16) a ++ f (chained next v (length a / 16) a) (length b / 16) b
   halves v a b h =
@@ -82,24 +80,14 @@ encrypt-halves key iv a b h g =
     let w : List ℕ = keyExpansion key in
     let m : ℕ = length a / 16 in
     let c : chained (sealed w) iv m a ≡ handedOn iv (cbcEncrypt key iv a) =
-    chained-last (sealed w) (λ v x l. sealed-length w v x) iv m a (omega arith) ∙ ap (handedOn iv) (sym (encrypt-run w iv m a)) in
+    made-last (sealed w) (sealed-length w) iv m a ∙ ap (handedOn iv) (sym (encrypt-run w iv m a)) in
     halves (sealed w) (sealed w) (encryptBlocks w) (encrypt-run w) iv a b h
     ∙ ap (λ (v : List ℕ). cbcEncrypt key iv a ++ cbcEncrypt key v b) c
-
--- decryption chains on the blocks that it is given
-all-kept : (v : List ℕ) (n : ℕ) (d : List ℕ) → length d ≡ 16 * n → run kept kept v n d ≡ d
-unfolding run
-all-kept v zero d h = none-left d h
-all-kept v (suc n) d h =
-    ap (λ (x : List ℕ). take 16 d ++ x) (all-kept (take 16 d) n (drop 16 d) (omega (arith, length-drop 16 d))) ∙ take-append-drop 16 d
 
 pub decrypt-halves : (key iv : List ℕ) → ByHalves (cbcDecrypt key) (afterDecrypt key) iv
 unfolding cbcDecrypt
 decrypt-halves key iv a b h g =
     let w : List ℕ = keyExpansion key in
     let m : ℕ = length a / 16 in
-    let l : length a ≡ 16 * m = omega arith in
-    let c : chained kept iv m a ≡ handedOn iv a =
-    chained-last kept (λ v x e. e) iv m a l ∙ ap (handedOn iv) (all-kept iv m a l) in
     halves (opened w) kept (decryptBlocks w) (decrypt-run w) iv a b h
-    ∙ ap (λ (v : List ℕ). cbcDecrypt key iv a ++ cbcDecrypt key v b) c
+    ∙ ap (λ (v : List ℕ). cbcDecrypt key iv a ++ cbcDecrypt key v b) (kept-last iv m a (omega arith))

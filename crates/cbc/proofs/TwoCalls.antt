@@ -6,11 +6,10 @@ use mathlib.Core.List.{List, _++_}
 use lib.ListN.{length, length-append}
 use denote.Ref.{now}
 use Rattle.refusal.specs.Call.{Call}
-use Rattle.refusal.specs.declared.Outcome.the-variants.{Done}
 use Rattle.refusal.proofs.Told.{outcome-one}
 use Rattle.cbc.specs.Cbc.{cbcEncrypt, cbcDecrypt}
 use Rattle.cbc.specs.Promise.{CbcPromise}
-use Rattle.cbc.specs.Halves.{handedOn, afterEncrypt, afterDecrypt, ByHalves, CbcSeen, TwoGoes, AsOne}
+use Rattle.cbc.specs.Halves.{handedOn, afterEncrypt, afterDecrypt, ByHalves, CbcSeen, TwoGoes, EncryptGoes, DecryptGoes, AsOne}
 use Rattle.cbc.proofs.Halves.{encrypt-halves, decrypt-halves}
 use Rattle.cbc.proofs.Promise.{cbc-done, done-whole, answer-alike}
 use Rattle.cbc.proofs.cbc_encrypt.Kinds as encrypt-kinds
@@ -52,13 +51,13 @@ module _ (f after : List ℕ → List ℕ → List ℕ → List ℕ) (law : (key
             ((λ i. f ((t .first-key ∙ sym (t .second-key)) i) (sym (t .second-iv ∙ e) i) (second .lent)) ∙ sym (cbc-done _ _ _ _ g q));
       }
 
-pub encrypt-as-one : (first second whole : EncryptCall) → TwoGoes (λ s. s .left) (seenEncrypt first) (seenEncrypt second) (seenEncrypt whole)
+pub encrypt-as-one : (first second whole : EncryptCall) → EncryptGoes (seenEncrypt first) (seenEncrypt second) (seenEncrypt whole)
     → AsOne (seenEncrypt first) (seenEncrypt second) (seenEncrypt whole)
 encrypt-as-one first second whole t =
     as-one cbcEncrypt afterEncrypt encrypt-halves (λ s. s .left) _ _ _ (first .kept) (second .kept) (whole .kept) t
     (ap (handedOn (seenEncrypt first .iv)) (cbc-done _ _ _ _ (done-whole _ _ _ _ (t .first-done) (first .kept)) (first .kept)))
 
-pub decrypt-as-one : (first second whole : DecryptCall) → TwoGoes (λ s. s .lent) (seenDecrypt first) (seenDecrypt second) (seenDecrypt whole)
+pub decrypt-as-one : (first second whole : DecryptCall) → DecryptGoes (seenDecrypt first) (seenDecrypt second) (seenDecrypt whole)
     → AsOne (seenDecrypt first) (seenDecrypt second) (seenDecrypt whole)
 decrypt-as-one first second whole t =
     as-one cbcDecrypt afterDecrypt decrypt-halves (λ s. s .lent) _ _ _ (first .kept) (second .kept) (whole .kept) t refl

@@ -28,7 +28,7 @@ zeros≢ones e =
     let z : _≡_ {A = ℕ} 0 1 = ap (λ (l : List ℕ). getD l 0 0) e in
     omega arith
 
--- two laws that hand on two blocks make the same of what follows
+-- where two laws hold of f, the block that either hands on makes the same of what follows
 same-behind : (f after other : List ℕ → List ℕ → List ℕ) (iv a b : List ℕ) → length a % 16 ≡ 0 → length b % 16 ≡ 0
     → ByHalves f after iv → ByHalves f other iv → f (after iv a) b ≡ f (other iv a) b
 same-behind f after other iv a b h g p q = append-cancel-left (f iv a) _ _ (sym (p a b h g) ∙ q a b h g)

@@ -33,8 +33,8 @@ pub record CbcSeen : Type 0 where
   pub answer : Outcome
   pub left : List ℕ
 
--- two calls on the two parts of the buffer that a third is lent whole, under its key. The first has the third's IV and is not refused; the second has
--- the block that is handed on behind the first's cipher text, which `cipherText` tells
+-- two calls on the two parts of the buffer that a third is lent whole, under its key. The first has the third's IV and is not refused; the second's IV
+-- is the block that is handed on behind the first's cipher text, which `cipherText` tells
 pub record TwoGoes (cipherText : CbcSeen → List ℕ) (first second whole : CbcSeen) : Type 0 where
   pub parts : whole .lent ≡ first .lent ++ second .lent
   pub first-key : first .key ≡ whole .key
@@ -43,7 +43,14 @@ pub record TwoGoes (cipherText : CbcSeen → List ℕ) (first second whole : Cbc
   pub second-iv : second .iv ≡ handedOn (first .iv) (cipherText first)
   pub first-done : first .answer ≡ Done
 
--- they are the third: it answers what the second answers, and unless that is a refusal it leaves what the two leave
+-- encryption leaves the cipher text, decryption is lent it
+abbrev pub EncryptGoes : (first second whole : CbcSeen) → Type 0
+EncryptGoes = TwoGoes (λ s. s .left)
+
+abbrev pub DecryptGoes : (first second whole : CbcSeen) → Type 0
+DecryptGoes = TwoGoes (λ s. s .lent)
+
+-- together they are the third: it answers what the second answers, and unless that is a refusal it leaves what the two leave
 pub record AsOne (first second whole : CbcSeen) : Type 0 where
   pub answer : whole .answer ≡ second .answer
   pub left : second .answer ≡ Done → whole .left ≡ first .left ++ second .left

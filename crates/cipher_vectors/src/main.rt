@@ -163,7 +163,7 @@ fn encrypt_and_hand_on(key: [u8; 16], iv: [u8; 16], s: &mut [u8]) -> [u8; 16]
     hand_on(iv, s)
 }
 
-// The same the other way: the cipher text is gone once the go is made.
+// The same the other way: the cipher text is gone once the go is made, so the block is read first.
 fn decrypt_and_hand_on(key: [u8; 16], iv: [u8; 16], s: &mut [u8]) -> [u8; 16]
     requires { ⌜ length (now s) % 16 ≡ 0 ⌝ }
     ensures { λ r. ⌜ Went (cbcDecrypt key) (afterDecrypt key) iv (now (s .entry)) r (now (s .exit)) ⌝ }
@@ -179,7 +179,7 @@ fn encrypt_in_two(key: [u8; 16], iv: [u8; 16], k: usize, s: &mut [u8])
     ensures { λ _. ⌜ now (s .exit) ≡ cbcEncrypt key iv (now (s .entry)) ⌝ }
 {
     let next = encrypt_and_hand_on(key, iv, &mut s[..k]);
-    encrypt_and_hand_on(key, next, &mut s[k..]);
+    cbc::cbc_encrypt(key, next, &mut s[k..]);
 }
 
 fn decrypt_in_two(key: [u8; 16], iv: [u8; 16], k: usize, s: &mut [u8])
@@ -187,7 +187,7 @@ fn decrypt_in_two(key: [u8; 16], iv: [u8; 16], k: usize, s: &mut [u8])
     ensures { λ _. ⌜ now (s .exit) ≡ cbcDecrypt key iv (now (s .entry)) ⌝ }
 {
     let next = decrypt_and_hand_on(key, iv, &mut s[..k]);
-    decrypt_and_hand_on(key, next, &mut s[k..]);
+    cbc::cbc_decrypt(key, next, &mut s[k..]);
 }
 
 fn show_in_two(key: [u8; 16], iv: [u8; 16], k: usize, s: &mut [u8])

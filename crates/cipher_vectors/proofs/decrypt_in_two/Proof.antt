@@ -23,7 +23,8 @@ returns c =
     let s = c6 .before .before .before in
     let p = c6 .decrypt-and-hand-on .ensures in
     let e = ap length (p .made) ∙ decrypt-length _ _ _ (front-whole _ _ (s .pre)) in
-    in-two (cbcDecrypt (s .args .key)) (afterDecrypt (s .args .key)) _ _ _ _ _ _ _ _ (decrypt-halves _ _) (s .pre) p e refl (c2 .decrypt-and-hand-on2 .ensures)
+    in-two (cbcDecrypt (s .args .key)) (afterDecrypt (s .args .key)) _ _ _ _ _ _ _ _ (decrypt-halves _ _) (s .pre) p e refl
+    (c2 .cbc-decrypt .ensures)
 
 pub decrypt-in-two-spec : {M : Type 1} → statement M
 decrypt-in-two-spec =

@@ -23,7 +23,8 @@ returns c =
     let s = c6 .before .before .before in
     let p = c6 .encrypt-and-hand-on .ensures in
     let e = ap length (p .made) ∙ encrypt-length _ _ _ (front-whole _ _ (s .pre)) in
-    in-two (cbcEncrypt (s .args .key)) (afterEncrypt (s .args .key)) _ _ _ _ _ _ _ _ (encrypt-halves _ _) (s .pre) p e refl (c2 .encrypt-and-hand-on2 .ensures)
+    in-two (cbcEncrypt (s .args .key)) (afterEncrypt (s .args .key)) _ _ _ _ _ _ _ _ (encrypt-halves _ _) (s .pre) p e refl
+    (c2 .cbc-encrypt .ensures)
 
 pub encrypt-in-two-spec : {M : Type 1} → statement M
 encrypt-in-two-spec =

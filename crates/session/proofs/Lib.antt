@@ -11,3 +11,4 @@ pub mod Exchange
 pub mod Only
 pub mod Calls
 pub mod Named
+pub mod Never26

@@ -63,7 +63,7 @@ def keys(d):
 
 
 def blocks(d):
-    """Every type with every code, every length byte, every length; reserved bytes are drawn."""
+    """Every type with every code, every length byte, 0 to 40 bytes (of which only eight are a case); reserved bytes are drawn."""
     def of(kind, length, code):
         r = d.bytes(5)
         return bytes([kind, r[0], r[1], length, code]) + r[2:]
@@ -78,9 +78,18 @@ def blocks(d):
         yield line("block", (of(n % 4, 8, 1) + d.bytes(33))[:n])
 
 
+def block_lengths(d):
+    """Good blocks cut short or with bytes behind them, also so many that the count is 8 in one byte or in two; a block after each."""
+    for kind, code in ((0, 3), (1, 4), (2, 3)):
+        whole = bytes([kind, 0, 0, 8, code, 0, 0, 0])
+        for n in (0, 1, 3, 4, 5, 7, 9, 12, 16, 24, 255, 256, 257, 264, 512, 520, 65535, 65536, 65544, 131080):
+            yield line("block", (whole + d.bytes(n))[:n])
+            yield line("block", whole)
+
+
 FAMILIES = [("hashes", hashes), ("ciphers", ciphers), ("keys", keys), ("blocks", blocks)]
 FAMILIES += cases_frame.FAMILIES + cases_steps.FAMILIES + cases_lines.FAMILIES + cases_messages.FAMILIES + cases_arrivals.FAMILIES
-FAMILIES += cases_statuses.FAMILIES + cases_names.FAMILIES
+FAMILIES += cases_statuses.FAMILIES + cases_names.FAMILIES + [("block-lengths", block_lengths)]
 
 
 def main():

@@ -23,7 +23,6 @@ def number(b):
     return int.from_bytes(b, "little")
 
 def block(b):
-    need(len(b) == 8, 26)
     need(b[3] == 8, 22)
     need(b[0] in HIGHEST, 24, b[0])
     need(b[4] <= HIGHEST[b[0]], 23, b[4])
@@ -109,9 +108,9 @@ TEMPLATE = {
     "4": bytes.fromhex("0a000000a4000000") + LETTERS,
     "name": b"n" * 64,
     "long name": b"n" * 64,
-    0: bytes.fromhex("0000000801000000") + bytes(56),
-    1: bytes.fromhex("0100000801000000") + bytes(56),
-    2: bytes.fromhex("0200000801000000") + bytes(56),
+    0: bytes.fromhex("0000000801000000"),
+    1: bytes.fromhex("0100000801000000"),
+    2: bytes.fromhex("0200000801000000"),
 }
 READERS = {"open": (open_response, 36), "2": (message_2, 60), "4": (message_4, 20), "name": (username, 16),
            "long name": (username, 17)}
@@ -125,8 +124,7 @@ def byte(label, kind, at):
     row(label, read(reader, shown(kind), lambda n: (whole[:at] + bytes([n]) + whole[at + 1:])[:size]), 255)
 
 def length(label, kind):
-    reader, _ = READERS.get(kind, (block, 8))
-    row(label, read(reader, shown(kind), lambda n: TEMPLATE[kind][:n]), 64)
+    row(label, read(READERS[kind][0], shown(kind), lambda n: TEMPLATE[kind][:n]), 64)
 
 def room(label, message):
     row(label, lambda n: (0, len(message)) if n >= len(message) else (15, 0), 64)
@@ -167,7 +165,6 @@ def rows():
     length("open response, length", "open")
     length("message 2, length", "2")
     length("message 4, length", "4")
-    length("block, length", 1)
     length("username, length", "name")
     room("open request, room", request(3))
     room("message 1, no name, room", message_1(0))

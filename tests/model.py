@@ -79,6 +79,10 @@ def block16(field):
     return data(field, 16)
 
 
+def block8(field):
+    return data(field, 8)
+
+
 # The answers
 
 def hashed(n, digest):
@@ -251,7 +255,7 @@ CASES = {
     "cbc-encrypt": ((block16, block16, data), a_cbc(aes.cbc_encrypt)),
     "cbc-decrypt": ((block16, block16, data), a_cbc(aes.cbc_decrypt)),
     "keys": ((sik_of,), lambda sik: "ok k1 %s aes %s" % tuple(k.hex() for k in session_keys(sik))),
-    "block": ((data,), a_block),
+    "block": ((block8,), a_block),
     "open-request": ((byte, level, ident, codes_to(3), codes_to(4), codes_to(3), room),
                      lambda tag, level, own, a, i, c, room: lent(room, request(tag, level, own, (a, i, c)))),
     "rakp1": ((byte, ident, block16, byte, data, room), a_rakp1),

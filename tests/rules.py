@@ -151,7 +151,6 @@ def read_once(record, *given):
 # Messages and steps (rule 7)
 
 def block(data):
-    need(len(data) == 8, 26)
     need(data[3] == 8, 22)
     need(data[0] <= 2, 24, data[0])
     need(data[4] <= (4 if data[0] == 1 else 3), 23, data[4])

@@ -1,7 +1,8 @@
 //! One case to a line in, one answer to a line out: the protocol of `replay`, answered by the files of ipmi-rs.
 //!
-//! An answer says whose it is. `refused N` and `ok ..` are the crate's own. `harness N` stands where the crate has no such
-//! refusal (room, step, lengths of Kg and password, hash limit, outer header) and the rule is kept by this program.
+//! An answer says whose it is. `refused N` and `ok ..` are the crate's own, and so is `error NAME`, an error that has no number
+//! here. `harness N` stands where the crate has no such refusal (room, step, lengths of Kg and password, hash limit, outer
+//! header) and the rule is kept by this program.
 //! `harness record` stands before the record of the numbers taken, which the crate does not keep.
 //! `blocks -` stands where the crate does not count. `panic FILE:LINE MESSAGE` stands where the crate does not return.
 //! `excluded` stands before what was written where the crate's types leave out a value of the case, which was put in here.

@@ -5,6 +5,8 @@ use std::{cell::RefCell, fmt, panic};
 pub enum Refusal {
     /// The crate's own error: its number and the byte that it carries.
     Crate(u8, Option<u8>),
+    /// The crate's own error that has no number: its name.
+    Unnumbered(&'static str),
     /// Message 2 was declined, with these bytes.
     Declined(Vec<u8>),
     /// The crate has no such refusal; this program keeps the rule.
@@ -18,6 +20,7 @@ impl fmt::Display for Refusal {
         match self {
             Refusal::Crate(n, None) => write!(f, "refused {n}"),
             Refusal::Crate(n, Some(v)) => write!(f, "refused {n} {v}"),
+            Refusal::Unnumbered(name) => write!(f, "error {name}"),
             Refusal::Declined(_) => write!(f, "refused 31"),
             Refusal::Harness(n, None) => write!(f, "harness {n}"),
             Refusal::Harness(n, Some(v)) => write!(f, "harness {n} {v}"),

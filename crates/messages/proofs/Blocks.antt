@@ -4,7 +4,7 @@ use mathlib.Core.Bool.{true}
 use mathlib.Core.List.{List}
 use mathlib.Core.Path.{_≡_, refl, sym, _∙_, ap}
 use lib.Dec.{leb}
-use lib.ListN.{length, getD}
+use lib.ListN.{getD}
 use borrow.Author.Tests.{eq-eqb, ne-eqb, lt-leb}
 use Rattle.refusal.specs.Order.{Res, refuse, accept}
 use Rattle.refusal.proofs.Order.{pass, need-no}
@@ -20,27 +20,20 @@ unfolding known
 known-not t c h = sym (need-no _ _ _ _ (lt-leb c _ h))
 
 module _ (l : List ℕ) where
-  pub block-len : (length l ≡ 8 → ⊥) → refuse 26 0 ≡ blockOf l
+  pub block-value : (getD l 3 0 ≡ 8 → ⊥) → refuse 22 0 ≡ blockOf l
   unfolding blockOf
-  block-len h = sym (need-no _ _ _ _ (ne-eqb _ 8 h))
+  block-value g = sym (need-no _ _ _ _ (ne-eqb _ 8 g))
 
-  module _ (h : length l ≡ 8) where
-    pub block-value : (getD l 3 0 ≡ 8 → ⊥) → refuse 22 0 ≡ blockOf l
+  module _ (g : getD l 3 0 ≡ 8) where
+    pub block-type : 2 < getD l 0 0 → refuse 24 (getD l 0 0) ≡ blockOf l
     unfolding blockOf
-    block-value g = sym (pass _ _ _ _ (eq-eqb _ 8 h) (need-no _ _ _ _ (ne-eqb _ 8 g)))
-
-    pub block-type : getD l 3 0 ≡ 8 → 2 < getD l 0 0 → refuse 24 (getD l 0 0) ≡ blockOf l
-    unfolding blockOf
-    block-type g k =
-        sym (pass _ _ _ _ (eq-eqb _ 8 h) (pass _ _ _ _ (eq-eqb _ 8 g) (need-no _ _ _ _ (lt-leb _ 2 k))))
+    block-type k = sym (pass _ _ _ _ (eq-eqb _ 8 g) (need-no _ _ _ _ (lt-leb _ 2 k)))
 
     -- of a known type the code decides
-    pub block-known : (t : ℕ) (r : Res Block) → getD l 3 0 ≡ 8 → getD l 0 0 ≡ t → leb t 2 ≡ true → r ≡ known t (getD l 4 0)
-        → r ≡ blockOf l
+    pub block-known : (t : ℕ) (r : Res Block) → getD l 0 0 ≡ t → leb t 2 ≡ true → r ≡ known t (getD l 4 0) → r ≡ blockOf l
     unfolding blockOf
-    block-known t r g e k f =
+    block-known t r e k f =
         f
         ∙ sym
-        (pass _ _ _ _ (eq-eqb _ 8 h)
         (pass _ _ _ _ (eq-eqb _ 8 g)
-        (pass _ _ _ _ (ap (λ (x : ℕ). leb x 2) e ∙ k) (ap (λ (x : ℕ). known x (getD l 4 0)) e))))
+        (pass _ _ _ _ (ap (λ (x : ℕ). leb x 2) e ∙ k) (ap (λ (x : ℕ). known x (getD l 4 0)) e)))

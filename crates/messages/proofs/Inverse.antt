@@ -44,7 +44,7 @@ confidentiality-known confidentiality.Xrc4_40 = refl
 read-back : (t c : ℕ) → leb t 2 ≡ true → leb c (lastCode t) ≡ true
     → blockOf (blockBytes t c) ≡ accept (record { type = t; code = c })
 unfolding blockOf known
-read-back t c h k = pass _ _ _ _ refl (pass _ _ _ _ refl (pass _ _ _ _ h (pass _ _ _ _ k refl)))
+read-back t c h k = pass _ _ _ _ refl (pass _ _ _ _ h (pass _ _ _ _ k refl))
 
 -- of the bytes that are written the reader's definition says what was written
 pub written-read : (p : AlgorithmPayload) → blockOf (bytesOf p) ≡ accept (numbers p)

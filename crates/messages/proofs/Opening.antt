@@ -46,6 +46,10 @@ module _ (t : ℕ) (a : BlockAnswer) (B : Res Block) (e : toldBlock a ≡ B) whe
     unfolding ofType
     type-wrong k = sym (then-accept _ _ _ (sym e ∙ ap toldBlock (g ∙ ap block.Block h)) ∙ need-no _ _ _ _ k)
 
+-- what was answered of a block holds of the place that it was cut from
+pub cut-answer : (t : ℕ) (b p : List ℕ) (A R : Res ℕ) → b ≡ p → A ≡ ofType t (blockOf b) → A ≡ R → ofType t (blockOf p) ≡ R
+cut-answer t b p A R e f g = ap (λ (l : List ℕ). ofType t (blockOf l)) (sym e) ∙ sym f ∙ g
+
 -- the blocks in turn
 module _ (m : List ℕ) where
   pub fields-first : (n v : ℕ) → ofType 0 (blockOf (part m 12 8)) ≡ refuse n v → refuse n v ≡ openFields m

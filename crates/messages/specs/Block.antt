@@ -1,9 +1,9 @@
--- Algorithm blocks (docs/RULES.md, 7.1 to 7.3; the Standard, 13.17 and 13.18): eight bytes, the type at 0, the length 8 at 3,
+-- Algorithm blocks (docs/RULES.md, 7.1 to 7.3 and 7.11; the Standard, 13.17 and 13.18): eight bytes, the type at 0, the length 8 at 3,
 -- the algorithm's code at 4, the others reserved.
 use Prim.Native.Nat.{ℕ}
 use mathlib.Core.List.{List, [], _∷_}
 use lib.Dec.{eqb, leb}
-use lib.ListN.{length, getD}
+use lib.ListN.{getD}
 use Rattle.refusal.specs.Order.{Res, accept, need, andThen}
 use Rattle.messages.specs.Auth.{authenticationCode, integrityCode, confidentialityCode}
 use Rattle.messages.specs.declared.«open_session».AlgorithmPayload.{AlgorithmPayload}
@@ -22,13 +22,12 @@ lastCode t = getD (3 ∷ 4 ∷ 3 ∷ []) t 0
 unfoldable pub known : ℕ → ℕ → Res Block
 known t c = need (leb c (lastCode t)) 23 c (accept (record { type = t; code = c }))
 
--- reading one block, in the order of the refusals
+-- reading one block of eight bytes, in the order of the refusals
 unfoldable pub blockOf : List ℕ → Res Block
 blockOf l =
-    need (eqb (length l) 8) 26 0
-    (need (eqb (getD l 3 0) 8) 22 0
+    need (eqb (getD l 3 0) 8) 22 0
     (need (leb (getD l 0 0) 2) 24 (getD l 0 0)
-    (known (getD l 0 0) (getD l 4 0))))
+    (known (getD l 0 0) (getD l 4 0)))
 
 -- a block in the place of the type t: another type there is 25
 unfoldable pub ofType : ℕ → Res Block → Res ℕ

@@ -1,9 +1,9 @@
 // Opening a session: the request that we write, the response that we read, and the blocks that name an algorithm in both.
 ghost use mathlib.Core.Path.{_≡_};
-ghost use Prim.Native.Nat.{_≤_};
+ghost use Prim.Native.Nat.{_+_, _≤_};
 ghost use mathlib.Core.List.{_++_};
 ghost use lib.ListN.{length};
-ghost use Rattle.octets.specs.Place.{begun};
+ghost use Rattle.octets.specs.Place.{begun, part};
 ghost use Rattle.messages.specs.Block.{blockOf, bytesOf, ofType, known};
 ghost use Rattle.messages.specs.Auth.{authenticationCode, integrityCode, confidentialityCode};
 ghost use Rattle.messages.specs.OpenSession.{levelByte, openRequest, openChecked, openNumbers, openFields, openResponse, responseNumbers};
@@ -102,12 +102,9 @@ impl AlgorithmPayload {
         }
     }
 
-    pub fn from_data(block: &[u8]) -> BlockAnswer
-        ensures { λ r. ⌜ toldBlock r ≡ blockOf (now (block .entry)) ⌝ }
+    pub fn from_data(block: [u8; 8]) -> BlockAnswer
+        ensures { λ r. ⌜ toldBlock r ≡ blockOf block ⌝ }
     {
-        if block.len() != 8 {
-            return BlockAnswer::Refused(Refusal::IncorrectDataLen);
-        }
         if block[3] != 8 {
             return BlockAnswer::Refused(Refusal::IncorrectPayloadLenValue);
         }
@@ -214,8 +211,8 @@ enum ConfidentialityAnswer {
 }
 
 // The block in the place of authentication.
-fn read_authentication(block: &[u8]) -> AuthenticationAnswer
-    ensures { λ r. ⌜ toldAuthentication r ≡ ofType 0 (blockOf (now (block .entry))) ⌝ }
+fn read_authentication(block: [u8; 8]) -> AuthenticationAnswer
+    ensures { λ r. ⌜ toldAuthentication r ≡ ofType 0 (blockOf block) ⌝ }
 {
     match AlgorithmPayload::from_data(block) {
         BlockAnswer::Refused(r) => AuthenticationAnswer::Refused(r),
@@ -232,8 +229,8 @@ fn read_authentication(block: &[u8]) -> AuthenticationAnswer
 }
 
 // The block in the place of integrity.
-fn read_integrity(block: &[u8]) -> IntegrityAnswer
-    ensures { λ r. ⌜ toldIntegrity r ≡ ofType 1 (blockOf (now (block .entry))) ⌝ }
+fn read_integrity(block: [u8; 8]) -> IntegrityAnswer
+    ensures { λ r. ⌜ toldIntegrity r ≡ ofType 1 (blockOf block) ⌝ }
 {
     match AlgorithmPayload::from_data(block) {
         BlockAnswer::Refused(r) => IntegrityAnswer::Refused(r),
@@ -250,8 +247,8 @@ fn read_integrity(block: &[u8]) -> IntegrityAnswer
 }
 
 // The block in the place of confidentiality.
-fn read_confidentiality(block: &[u8]) -> ConfidentialityAnswer
-    ensures { λ r. ⌜ toldConfidentiality r ≡ ofType 2 (blockOf (now (block .entry))) ⌝ }
+fn read_confidentiality(block: [u8; 8]) -> ConfidentialityAnswer
+    ensures { λ r. ⌜ toldConfidentiality r ≡ ofType 2 (blockOf block) ⌝ }
 {
     match AlgorithmPayload::from_data(block) {
         BlockAnswer::Refused(r) => ConfidentialityAnswer::Refused(r),
@@ -294,16 +291,26 @@ fn check_head(message: &[u8]) -> Outcome
     Outcome::Done
 }
 
+// The eight bytes of the block that begins at `at`.
+fn cut_block(message: &[u8], at: usize) -> [u8; 8]
+    requires { ⌜ at + 8 ≤ length (now message) ⌝ }
+    ensures { λ r. ⌜ r ≡ part (now (message .entry)) at 8 ⌝ }
+{
+    let mut b = [0u8; 8];
+    octets::put(&mut b, 0, &message[at..at + 8]);
+    b
+}
+
 // The blocks in turn, and then the response.
 fn read_blocks(message: &[u8]) -> OpenSessionAnswer
     requires { ⌜ length (now message) ≡ 36 ⌝ }
     ensures { λ r. ⌜ toldOpen r ≡ openFields (now (message .entry)) ⌝ }
 {
-    match read_authentication(&message[12..20]) {
+    match read_authentication(cut_block(message, 12)) {
         AuthenticationAnswer::Refused(r) => OpenSessionAnswer::Refused(r),
-        AuthenticationAnswer::Found(a) => match read_integrity(&message[20..28]) {
+        AuthenticationAnswer::Found(a) => match read_integrity(cut_block(message, 20)) {
             IntegrityAnswer::Refused(r) => OpenSessionAnswer::Refused(r),
-            IntegrityAnswer::Found(i) => match read_confidentiality(&message[28..RESPONSE_LEN]) {
+            IntegrityAnswer::Found(i) => match read_confidentiality(cut_block(message, 28)) {
                 ConfidentialityAnswer::Refused(r) => OpenSessionAnswer::Refused(r),
                 ConfidentialityAnswer::Found(c) => OpenSessionAnswer::Response(make_response(
                     message,

@@ -38,7 +38,6 @@ fn show_lengths() {
         0,
         64,
     );
-    show_line(b"block, length", readers::CUT + readers::BLOCK_1, 0, 64);
     show_line(b"username, length", readers::CUT + readers::NAME, 0, 64);
     show_line(b"open request, room", writers::REQUEST, 1, 64);
     show_line(b"message 1, no name, room", writers::MESSAGE_1, 0, 64);

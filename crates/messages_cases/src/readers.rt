@@ -1,4 +1,4 @@
-// Cases for the readers. Each message stands in 64 bytes, of which a case lends the first ones.
+// Cases for the readers. Each message stands in 64 bytes, of which a case lends the first ones; a block is given by value.
 ghost use Prim.Native.Nat.{_≤_};
 use crate::print;
 use crate::print::OUT;
@@ -21,18 +21,19 @@ pub const MESSAGE_2: u8 = 1;
 
 pub const MESSAGE_4: u8 = 2;
 
-pub const BLOCK_0: u8 = 3;
+pub const NAME: u8 = 3;
 
-pub const BLOCK_1: u8 = 4;
-
-pub const BLOCK_2: u8 = 5;
-
-pub const NAME: u8 = 6;
-
-pub const LONG_NAME: u8 = 7;
+pub const LONG_NAME: u8 = 4;
 
 // The same with CUT added: the length is varied.
-pub const CUT: u8 = 8;
+pub const CUT: u8 = 5;
+
+// A block of each type, of which a byte is varied; these stand behind the kinds with CUT added.
+pub const BLOCK_0: u8 = 10;
+
+pub const BLOCK_1: u8 = 11;
+
+pub const BLOCK_2: u8 = 12;
 
 fn tell_refusal(r: Refusal) -> Told {
     Told {
@@ -82,7 +83,10 @@ fn code_of(p: AlgorithmPayload) -> u8 {
     }
 }
 
-fn try_block(b: &[u8]) -> Told {
+// A block of a type, with the byte n at `at`.
+fn try_block(ty: u8, at: usize, n: u8) -> Told {
+    let mut b = [ty, 0, 0, 8, 1, 0, 0, 0];
+    b[at % 8] = n;
     match AlgorithmPayload::from_data(b) {
         BlockAnswer::Refused(r) => tell_refusal(r),
         BlockAnswer::Block(p) => Told {
@@ -114,23 +118,12 @@ const BYTES_2: [u8; 64] =
 const BYTES_4: [u8; 64] =
     *b"\x0a\0\0\0\xa4\0\0\0abcdefghijklmnopABCDEFGHIJKLMNOPqrstuvwxyzQRSTUVWXYZ;,.:";
 
-fn make_block(ty: u8) -> [u8; 64] {
-    let mut b = [0u8; 64];
-    b[0] = ty;
-    b[3] = 8;
-    b[4] = 1;
-    b
-}
-
 // The bytes that a kind of cases starts from.
 fn make_bytes(kind: u8) -> [u8; 64] {
     match kind {
         0 => OPEN_BYTES,
         1 => BYTES_2,
         2 => BYTES_4,
-        3 => make_block(0),
-        4 => make_block(1),
-        5 => make_block(2),
         _ => [b'n'; 64],
     }
 }
@@ -143,9 +136,8 @@ fn size_of(kind: u8) -> usize
         0 => 36,
         1 => 60,
         2 => 20,
-        6 => 16,
-        7 => 17,
-        _ => 8,
+        3 => 16,
+        _ => 17,
     }
 }
 
@@ -154,9 +146,7 @@ fn try_kind(kind: u8, s: &[u8]) -> Told {
         0 => try_open(s),
         1 => try_message_2(s),
         2 => try_message_4(s),
-        6 => try_name(s),
-        7 => try_name(s),
-        _ => try_block(s),
+        _ => try_name(s),
     }
 }
 
@@ -168,9 +158,13 @@ fn lend_first(kind: u8, bytes: [u8; 64], n: usize) -> Told
 
 // The case n of a kind: the byte at `at` is n, or the first n bytes are lent.
 pub fn try_case(kind: u8, at: usize, n: usize) -> Told {
+    let byte = (n % 256) as u8;
+    if BLOCK_0 <= kind {
+        return try_block(kind - BLOCK_0, at, byte);
+    }
     let mut bytes = make_bytes(kind % CUT);
     if kind < CUT {
-        bytes[at % 64] = (n % 256) as u8;
+        bytes[at % 64] = byte;
         return lend_first(kind, bytes, size_of(kind));
     }
     if 64 < n {

@@ -1,5 +1,5 @@
--- What the table of refusals is sure of: its numbers are those listed, each is used once, and a refusal is known by its
--- number and its value. Proofs outside this crate cite these laws and never go through the cases.
+-- What the table of refusals is sure of: its numbers are those listed, each is used once, none is a retired one, and a refusal is known by
+-- its number and its value. Proofs outside this crate cite these laws and never go through the cases.
 use Prim.Native.Nat.{ℕ}
 use mathlib.Core.Bool.{Bool, true, false, false≢true, cond, _||_, _&&_, not, or-true}
 use mathlib.Core.List.{List, [], _∷_, map}
@@ -10,7 +10,7 @@ use denote.Enum.Declared.{tagOf}
 use types.Run.{OneOf}
 use borrow.Author.Tests.{eq-eqb, eqb-true, not-true}
 use Rattle.refusal.proofs.Refusal.{the-type}
-use Rattle.refusal.specs.Table.{numberOf, valueOf, carriesOf, among, unrepeated, numbers}
+use Rattle.refusal.specs.Table.{numberOf, valueOf, carriesOf, among, unrepeated, numbers, retired}
 use Rattle.refusal.specs.declared.Refusal.{Refusal}
 use Rattle.refusal.specs.declared.Refusal.the-variants as refusal
 
@@ -42,7 +42,6 @@ table v =
     refusal.UnknownAlgorithm v ∷
     refusal.UnknownBlockType v ∷
     refusal.WrongKindOfBlock ∷
-    refusal.IncorrectDataLen ∷
     refusal.MessageTagMismatch ∷
     refusal.SessionIdMismatch ∷
     refusal.AlgorithmNotCarried ∷
@@ -94,7 +93,6 @@ known refusal.IncorrectPayloadLenValue = refl
 known (refusal.UnknownAlgorithm b) = refl
 known (refusal.UnknownBlockType b) = refl
 known refusal.WrongKindOfBlock = refl
-known refusal.IncorrectDataLen = refl
 known refusal.MessageTagMismatch = refl
 known refusal.SessionIdMismatch = refl
 known refusal.AlgorithmNotCarried = refl
@@ -155,6 +153,16 @@ module _ (p : Refusal → Bool) where
 -- every refusal's number is one of the table's
 pub within : (r : Refusal) → among (numberOf r) numbers ≡ true
 within r = every (λ x. among (numberOf x) numbers) (λ v. refl) r
+
+-- and none has a number that was retired
+pub retired-unused : (r : Refusal) (n : ℕ) → among n retired ≡ true → numberOf r ≡ n → ⊥
+retired-unused r n h e =
+    let u = not-true _ (every (λ x. not (among (numberOf x) retired)) (λ v. refl) r) in
+    false≢true (sym u ∙ ap (λ (k : ℕ). among k retired) e ∙ h)
+
+-- 26 was retired: none has it
+pub none-26 : (r : Refusal) → numberOf r ≡ 26 → ⊥
+none-26 r = retired-unused r 26 refl
 
 first-or : (a b : Bool) → (a || b) ≡ true → a ≡ false → b ≡ true
 first-or true b e f = absurd (false≢true (sym f))

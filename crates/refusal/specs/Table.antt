@@ -34,7 +34,6 @@ entryOf refusal.IncorrectPayloadLenValue = (22, 0)
 entryOf (refusal.UnknownAlgorithm b) = (23, b)
 entryOf (refusal.UnknownBlockType b) = (24, b)
 entryOf refusal.WrongKindOfBlock = (25, 0)
-entryOf refusal.IncorrectDataLen = (26, 0)
 entryOf refusal.MessageTagMismatch = (27, 0)
 entryOf refusal.SessionIdMismatch = (28, 0)
 entryOf refusal.AlgorithmNotCarried = (29, 0)
@@ -61,8 +60,12 @@ abbrev pub numbers : List ℕ
 numbers =
     1 ∷ 2 ∷ 3 ∷ 4 ∷ 5 ∷ 6 ∷ 7 ∷ 8 ∷ 9 ∷ 10 ∷
     11 ∷ 12 ∷ 13 ∷ 14 ∷ 15 ∷ 16 ∷ 17 ∷ 18 ∷ 19 ∷ 20 ∷
-    21 ∷ 22 ∷ 23 ∷ 24 ∷ 25 ∷ 26 ∷ 27 ∷ 28 ∷ 29 ∷ 30 ∷
+    21 ∷ 22 ∷ 23 ∷ 24 ∷ 25 ∷ 27 ∷ 28 ∷ 29 ∷ 30 ∷
     31 ∷ 32 ∷ 33 ∷ 34 ∷ 35 ∷ 36 ∷ 37 ∷ 38 ∷ 39 ∷ 40 ∷ []
+
+-- the numbers that were retired: older help books give each its old meaning, so no refusal gets one again
+abbrev pub retired : List ℕ
+retired = 26 ∷ []
 
 -- the numbers that a byte goes with: 3 the six bits of the type, the others a whole byte
 abbrev pub carrying : List ℕ

@@ -30,9 +30,12 @@ fn say_payload(out: &mut [u8], c: Cursor, p: AlgorithmPayload) -> Cursor {
     }
 }
 
-// `ok auth A`, `ok integ A`, `ok conf A`.
-fn tell_block(block: &[u8], out: &mut [u8], c: Cursor) -> Cursor {
-    match AlgorithmPayload::from_data(block) {
+// `ok auth A`, `ok integ A`, `ok conf A`; other than eight bytes are no case.
+fn tell_block(b: &[u8], out: &mut [u8], c: Cursor) -> Cursor {
+    if b.len() != 8 {
+        return c;
+    }
+    match AlgorithmPayload::from_data([b[0], b[1], b[2], b[3], b[4], b[5], b[6], b[7]]) {
         BlockAnswer::Block(p) => say_payload(out, c, p),
         BlockAnswer::Refused(r) => cases::say_refusal(out, c, r),
     }

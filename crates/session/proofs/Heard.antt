@@ -42,7 +42,7 @@ id-back n h = unle-le 4 n h
 of-type : (t c : ℕ) → leb t 2 ≡ true → leb c (lastCode t) ≡ true → ofType t (blockOf (blockBytes t c)) ≡ accept c
 unfolding ofType blockOf known
 of-type t c h k =
-    then-accept _ _ (record { type = t; code = c }) (pass _ _ _ _ refl (pass _ _ _ _ refl (pass _ _ _ _ h (pass _ _ _ _ k refl))))
+    then-accept _ _ (record { type = t; code = c }) (pass _ _ _ _ refl (pass _ _ _ _ h (pass _ _ _ _ k refl)))
     ∙ pass _ _ _ _ (eq-eqb t t refl) refl
 
 -- a response

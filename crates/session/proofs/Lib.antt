@@ -11,4 +11,3 @@ pub mod Exchange
 pub mod Only
 pub mod Calls
 pub mod Named
-pub mod Never26

@@ -54,8 +54,7 @@ unfolding ofType blockOf known
 block-shuts t l =
     only-then Shuts _ _
     (only-need Shuts _ _ _ _ (refl, refl)
-    (only-need Shuts _ _ _ _ (refl, refl)
-    (only-need Shuts _ _ _ _ (refl, refl) (only-need Shuts _ _ _ _ (refl, refl) (only-accept Shuts _)))))
+    (only-need Shuts _ _ _ _ (refl, refl) (only-need Shuts _ _ _ _ (refl, refl) (only-accept Shuts _))))
     (λ b. only-need Shuts _ _ _ _ (refl, refl) (only-accept Shuts _))
 
 open-shuts : (m : List ℕ) → Only Shuts (openResponse m)

@@ -1,7 +1,7 @@
 //! The door to one algorithm block, and the numbers of the errors in the messages.
 use super::open_session::{AlgorithmPayload, AlgorithmPayloadError};
 use super::{ParseSessionResponseError, RakpMessage2ParseError, RakpMessage4ParseError};
-use crate::refusal::Refusal::{self, Crate};
+use crate::refusal::Refusal::{self, Crate, Unnumbered};
 
 /// The kind of a block (`auth`, `integ`, `conf`) and its code.
 pub fn block(data: &[u8]) -> Result<(&'static str, u8), Refusal> {
@@ -15,7 +15,7 @@ pub fn block(data: &[u8]) -> Result<(&'static str, u8), Refusal> {
 fn of_block(error: AlgorithmPayloadError) -> Refusal {
     use AlgorithmPayloadError::*;
     match error {
-        IncorrectDataLen => Crate(26, None),
+        IncorrectDataLen => Unnumbered("IncorrectDataLen"),
         IncorrectPayloadLenValue => Crate(22, None),
         UnknownAuthAlgorithm(b) | UnknownIntegrityAlgorithm(b) | UnknownConfidentialityAlgorithm(b) => {
             Crate(23, Some(b))

@@ -1,19 +1,20 @@
 """Whole exchanges, by `steps` and by `script`: good ones, every status, every length, every byte of the short messages."""
 from drawn import Word, line
-from rules import hmac
+from rules import hmac, role
 
 ORDER = ("kg", "level", "name", "password", "own", "rm", "opened", "m2", "m4")
 
 
 def good(d, **chosen):
     """The fields of an exchange that opens a session; what is chosen is taken, the rest is drawn or follows. Message 2 has zeros at 1,
-    where its status is, and at 2, where the Rust reads one; its code is that of a name cut at sixteen bytes, as the Rust cuts one."""
-    e = dict(kg=d.bytes(20) if d.below(2) else b"", level=d.one((None, 1, 2, 3, 4, 5)), own=1 + d.below(2 ** 32 - 1),
+    where its status is, and at 2, where the Rust reads one; its code is that of a name cut at sixteen bytes, as the Rust cuts one. The
+    level drawn asks for the role 04, the only one that the Rust has; the system takes whichever is asked for."""
+    e = dict(kg=d.bytes(20) if d.below(2) else b"", level=d.one((None, None, None, 4, 4, 4)), lookup=None, own=1 + d.below(2 ** 32 - 1),
              rm=d.bytes(16), rc=d.bytes(16), guid=d.bytes(16), password=d.bytes(d.below(24)), system=d.bytes(3) + b"\x01",
              name=bytes(33 + b % 94 for b in d.bytes(d.below(20))[:16]), auth=1, integ=d.below(2), conf=d.below(2), codelen=20)
     e.update(chosen)
     own, name = e["own"].to_bytes(4, "little"), e["name"][:16]
-    n = bytes([4, len(name)]) + name
+    n = bytes([e.get("role", role(e["level"], e["lookup"])), len(name)]) + name
     r = d.bytes(20)
     blocks = b"".join(bytes([k, r[k], r[k + 3], 8, code]) + r[6 + k:9 + k]
                       for k, code in enumerate((e["auth"], e["integ"], e["conf"])))
@@ -27,7 +28,12 @@ def good(d, **chosen):
 
 def steps(e, **changed):
     e = {**e, **changed}
-    return line("steps", *[Word(e[k]) if k == "own" else e[k] for k in ORDER])
+    return line("steps", *[Word(e[k]) if k == "own" else e[k] for k in ORDER], *more(e))
+
+
+def more(e):
+    """The field that a line may lack."""
+    return () if e["lookup"] is None else (e["lookup"],)
 
 
 def at(text, place, byte):
@@ -179,7 +185,7 @@ def secrets(d):
 
 
 def calls(e, room=70000, m2room=70000, begin=70000):
-    return {"begin": line("begin", Word(e["own"]), e["level"], e["name"], begin),
+    return {"begin": line("begin", Word(e["own"]), e["level"], e["name"], begin, *more(e)),
             "open": line("open", room, e["opened"], e["rm"]),
             "m2": line("m2", m2room, e["kg"], e["password"], e["m2"]),
             "m4": line("m4", e["m4"])}

@@ -95,10 +95,10 @@ def coded(key, text):
     return "ok %s blocks %d" % (hmac(key, text).hex(), hmac_blocks(len(key), len(text)))
 
 
-def steps(kg, level, name, password, own, rm, opened_, m2, m4):
+def steps(kg, level, name, password, own, rm, opened_, m2, m4, lookup=False):
     record, sent = Record(), []
     try:
-        sent.append(record.begin(own, level, name, LARGEST_ROOM))
+        sent.append(record.begin(own, level, name, LARGEST_ROOM, lookup))
         sent.append(record.open(LARGEST_ROOM, opened_, rm))
         sent.append(record.m2(LARGEST_ROOM, kg, password, m2))
         record.m4(m4)
@@ -274,6 +274,8 @@ CASES = {
     "steps": ((data, level, data, data, word, block16, data, data, data), steps),
 }
 LISTS = {"pieces": (data, a_pieces), "arrivals": (word, a_arrivals)}
+# fields that may stand behind the others
+OPTIONAL = {"steps": (flag,), "begin": (flag,)}
 CALLS = {
     "begin": (word, level, data, room),
     "open": (room, data, block16),
@@ -282,9 +284,10 @@ CALLS = {
 }
 
 
-def taken(fields, readers):
-    check(len(fields) == len(readers))
-    return [reader(field) for reader, field in zip(readers, fields)]
+def taken(name, fields, readers):
+    more = OPTIONAL.get(name, ())
+    check(len(readers) <= len(fields) <= len(readers + more))
+    return [reader(field) for reader, field in zip(readers + more, fields)]
 
 
 def script(text):
@@ -292,7 +295,7 @@ def script(text):
     for call in text.split("; "):
         name, *fields = call.split(" ")
         check(name in CALLS)
-        calls.append((name, taken(fields, CALLS[name])))
+        calls.append((name, taken(name, fields, CALLS[name])))
     record, answers = Record(), []
     for name, arguments in calls:
         try:
@@ -314,7 +317,7 @@ def answer(line):
             return work([reader(field) for field in fields])
         check(name in CASES)
         readers, work = CASES[name]
-        arguments = taken(fields, readers)
+        arguments = taken(name, fields, readers)
         return refusals(lambda: work(*arguments))
     except BadLine:
         return "bad line"

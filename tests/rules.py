@@ -168,6 +168,11 @@ def username(name):
     return name
 
 
+def role(level, lookup):
+    """What message 1 asks for: a level, and bit 4 for a lookup by name only."""
+    return (4 if level is None else level) | (0x10 if lookup else 0)
+
+
 def request(tag, level, console, codes):
     blocks = b"".join(bytes([kind, 0, 0, 8, code, 0, 0, 0]) for kind, code in enumerate(codes))
     return bytes([tag, level or 0, 0, 0]) + console + blocks
@@ -221,13 +226,13 @@ class Record:
     def __init__(self):
         self.step = "closed"
 
-    def begin(self, own, level, name, room):
+    def begin(self, own, level, name, room, lookup=False):
         self.step = "closed"
         need(own, 20)
         need(level is None or 1 <= level <= 5, 19, level)
         name = username(name)
         need(room >= 32, 15)
-        self.step, self.own, self.name = "begun", own.to_bytes(4, "little"), name
+        self.step, self.own, self.name, self.role = "begun", own.to_bytes(4, "little"), name, role(level, lookup)
         return request(0, level, self.own, (1, 1, 1))
 
     def call(self, step, work, early):
@@ -248,7 +253,7 @@ class Record:
             need(codes[0] == 1 and codes[1] <= 1 and codes[2] <= 1, 29)
             self.integ, self.conf = codes[1], codes[2]
             self.system, self.rm, self.step = data[8:12], rm, "opened"
-            return message_1(0x0D, self.system, rm, 4, self.name)
+            return message_1(0x0D, self.system, rm, self.role, self.name)
         return self.call("begun", work, lambda: need(room >= 28 + len(self.name), 15))
 
     def m2(self, room, kg, password, data):
@@ -262,7 +267,7 @@ class Record:
             need(data[0] == 0x0D, 27)
             need(data[4:8] == self.own, 28)
             need(len(code) == 20, 30)
-            n = bytes([4, len(self.name)]) + self.name
+            n = bytes([self.role, len(self.name)]) + self.name
             if code != hmac(password, self.own + self.system + self.rm + rc + guid + n):
                 raise Refused(31, wrote=message_3(0x0A, self.system, b"", 0x0F))
             self.sik = hmac(kg or password, self.rm + rc + n)

@@ -1,5 +1,5 @@
 //! `steps` and `script`: the four steps on one record.
-use crate::line::{hex, hex_of, level, room, show, word, LARGEST_ROOM};
+use crate::line::{hex, hex_of, level, number, room, show, word, LARGEST_ROOM};
 use crate::refusal::{caught, Refusal};
 use crate::rmcp::frame;
 use crate::rmcp::steps::{self, Record};
@@ -15,8 +15,18 @@ struct Steps {
     answers: [Vec<u8>; 3],
 }
 
+/// Whether what may stand behind a case's other fields is well formed: how the user is looked up, to which the crate has no counterpart.
+fn looks_up(more: &[&[u8]]) -> Option<()> {
+    match more {
+        [] => Some(()),
+        [lookup] => number(lookup, 1).map(|_| ()),
+        _ => None,
+    }
+}
+
 pub fn steps(f: &[&[u8]]) -> Option<String> {
-    let [kg, given, name, password, own, rm, opened, m2, m4] = f else { return None };
+    let [kg, given, name, password, own, rm, opened, m2, m4, more @ ..] = f else { return None };
+    looks_up(more)?;
     let case = Steps {
         kg: hex(kg)?,
         level: level(given)?,
@@ -104,7 +114,10 @@ enum Call {
 fn call(text: &[u8]) -> Option<Call> {
     let f: Vec<&[u8]> = text.split(|c| *c == b' ').collect();
     Some(match f[..] {
-        [b"begin", own, given, name, r] => Call::Begin(word(own)?, level(given)?, hex(name)?, room(r)?),
+        [b"begin", own, given, name, r, ref more @ ..] => {
+            looks_up(more)?;
+            Call::Begin(word(own)?, level(given)?, hex(name)?, room(r)?)
+        }
         [b"open", r, opened, rm] => Call::Open(room(r)?, hex(opened)?, hex_of(rm)?),
         [b"m2", r, kg, password, message] => Call::M2(room(r)?, hex(kg)?, hex(password)?, hex(message)?),
         [b"m4", message] => Call::M4(hex(message)?),

@@ -10,6 +10,7 @@ use libc::STDOUT_FILENO;
 use messages::open_session::RequestedPrivilege;
 use refusal::Refusal;
 use session::Asked;
+use session::Lookup;
 use session::Record;
 use text::Cursor;
 
@@ -322,6 +323,7 @@ fn open_session() -> Record {
     let asked = Asked {
         console: 0x0aa2a3a4,
         level: RequestedPrivilege::Level(4),
+        lookup: Lookup::NameAndLevel,
     };
     let a = session::begin(asked, b"nightdesk", &mut out);
     print_message(b"request ", a.len, &out);

@@ -1,11 +1,13 @@
 // The four calls on a step record, each with the places of its fields in a line.
 use crate::numbers::read_level;
+use crate::numbers::read_lookup;
 use cases::Span;
 use cases::pick_part;
 use cases::read_bytes;
 use messages::open_session::RequestedPrivilege;
 use refusal::Outcome;
 use session::Asked;
+use session::Lookup;
 use session::Record;
 use session::Stepped;
 
@@ -29,6 +31,7 @@ pub struct Plan {
     pub a: usize,
     pub b: usize,
     pub c: usize,
+    pub d: usize,
 }
 
 // A closed record: what a Begin leaves that is refused.
@@ -37,6 +40,7 @@ pub fn make_closed() -> Record {
     let asked = Asked {
         console: 0,
         level: RequestedPrivilege::None,
+        lookup: Lookup::NameAndLevel,
     };
     let s = session::begin(asked, b"", &mut room);
     s.state
@@ -47,19 +51,23 @@ fn call_begin(
     own: usize,
     level: usize,
     name: usize,
+    lookup: usize,
     buf: &mut [u8],
     room: &mut [u8],
 ) -> Called {
     let own = cases::read_id(line, own);
     let level = read_level(line, level);
+    let lookup = read_lookup(line, lookup);
     let name = read_bytes(line, name, buf, 0);
     let l = level.level;
+    let k = lookup.lookup;
     let asked = Asked {
         console: own.n,
         level: l,
+        lookup: k,
     };
     Called {
-        bad: own.bad | level.bad | name.bad,
+        bad: own.bad | level.bad | lookup.bad | name.bad,
         step: session::begin(asked, pick_part(buf, 0, name.to), room),
     }
 }
@@ -139,7 +147,7 @@ fn call_none(state: Record) -> Called {
 pub fn make_call(line: &[u8], p: Plan, state: Record, buf: &mut [u8], room: &mut [u8]) -> Called {
     let call = p.call;
     match call {
-        Call::Begin => call_begin(line, p.a, p.b, p.c, buf, room),
+        Call::Begin => call_begin(line, p.a, p.b, p.c, p.d, buf, room),
         Call::Open => call_open(line, p.a, p.b, state, buf, room),
         Call::M2 => call_m2(read_texts(line, p.a, p.b, p.c, buf), state, buf, room),
         Call::M4 => call_m4(line, p.a, state, buf),

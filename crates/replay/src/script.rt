@@ -19,25 +19,49 @@ struct Script {
     bad: bool,
 }
 
-// A call of a script: which fields it takes, how many it has, and which of them is its room (0 for none).
+// A call of a script: which fields it takes, how many it has and may have, and which of them is its room (0 for none).
 struct Form {
     plan: Plan,
     fields: usize,
+    most: usize,
     room: usize,
 }
 
 fn make_form(call: Call, a: usize, b: usize, c: usize, fields: usize, room: usize) -> Form {
     Form {
-        plan: Plan { call, a, b, c },
+        plan: Plan {
+            call,
+            a,
+            b,
+            c,
+            d: 0,
+        },
         fields,
+        most: fields,
         room,
     }
 }
 
-// `begin OWNID LEVEL NAME ROOM`, `open ROOM OPENED RM`, `m2 ROOM KG PASSWORD MSG` and `m4 MSG`, each behind a space.
+// `begin OWNID LEVEL NAME ROOM [LOOKUP]`, behind a space: it may lack its last field.
+fn form_begin() -> Form {
+    Form {
+        plan: Plan {
+            call: Call::Begin,
+            a: 2,
+            b: 3,
+            c: 4,
+            d: 6,
+        },
+        fields: 6,
+        most: 7,
+        room: 5,
+    }
+}
+
+// The others: `open ROOM OPENED RM`, `m2 ROOM KG PASSWORD MSG` and `m4 MSG`.
 fn form_call(k: usize) -> Form {
     match k {
-        0 => make_form(Call::Begin, 2, 3, 4, 6, 5),
+        0 => form_begin(),
         1 => make_form(Call::Open, 3, 4, 0, 5, 2),
         2 => make_form(Call::M2, 3, 4, 5, 6, 2),
         3 => make_form(Call::M4, 2, 0, 0, 3, 0),
@@ -79,7 +103,7 @@ fn read_call(call: &[u8]) -> Asked {
     let n = text::fields(call, b' ');
     let plan = form.plan;
     Asked {
-        bad: size.bad | (n != form.fields) | (pick_field(call, 0).len() != 0),
+        bad: size.bad | (n < form.fields) | (form.most < n) | (pick_field(call, 0).len() != 0),
         plan,
         room: size.n as usize,
     }

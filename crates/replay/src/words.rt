@@ -48,15 +48,23 @@ fn count_fields(k: usize, n: usize) -> usize {
     if k < 18 {
         return 5;
     }
-    if k < 25 { count_more(k) } else { n }
+    if k < 25 { count_more(k, n) } else { n }
 }
 
 // The same of a word from 18 on that has more than five.
-fn count_more(k: usize) -> usize {
+fn count_more(k: usize, n: usize) -> usize {
     if k < 21 {
         return 7;
     }
-    if k < 22 { 8 } else { 10 }
+    if k < 22 {
+        return 8;
+    }
+    if k < 24 { 10 } else { count_steps(n) }
+}
+
+// The last of these, `steps`, may have a field more.
+fn count_steps(n: usize) -> usize {
+    if n == 11 { 11 } else { 10 }
 }
 
 // The case of the word at k.

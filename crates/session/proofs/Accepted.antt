@@ -18,7 +18,7 @@ use Rattle.messages.specs.declared.«rakp_2».RakpMessage2.{RakpMessage2}
 use Rattle.messages.specs.declared.«rakp_4».RakpMessage4.{RakpMessage4}
 use Rattle.messages.proofs.Names.{taken-name}
 use Rattle.session.specs.Record.{stepNumber, inStep, answered, keyed, opened}
-use Rattle.session.specs.Steps.{Made, readyBegin, madeBegin, beginOf, readyOpen, heardOpen, oneTo, madeOpen, openOf}
+use Rattle.session.specs.Steps.{Made, levelAllowed, readyBegin, madeBegin, beginOf, readyOpen, heardOpen, oneTo, madeOpen, openOf}
 use Rattle.session.specs.Steps.{readyTwo, sikTwo, madeTwo, provedTwo, twoOf, readyFour, valueFour, heardFour, fourOf}
 use Rattle.session.specs.declared.Asked.{Asked}
 use Rattle.session.specs.declared.Record.{Record}
@@ -33,6 +33,7 @@ in-step s k e =
 pub begin-tells : (asked : Asked) (name : List ℕ) (room : ℕ) (M : Made)
     → beginOf asked name room ≡ accept M
     → (asked .console ≡ 0 → ⊥)
+    × (levelAllowed (asked .level) ≡ true)
     × (length name ≤ longestName)
     × (allowed name ≡ true)
     × (M ≡ madeBegin asked (stored name))
@@ -40,11 +41,13 @@ unfolding beginOf readyBegin
 begin-tells asked name room M e =
     let a = then-inv _ _ _ e in
     let b = need-inv _ _ _ _ (a .1) in
+    let l = need-inv _ _ _ _ (b .1) in
     let c = then-inv _ _ _ (a .2) in
     let d = taken-name name (c .0) (c .1) in
     let f = need-inv _ _ _ _ (c .2) in
     let g : madeBegin asked (stored (c .0)) ≡ M = accept-inj _ _ (f .1) in (
       eqb-false (asked .console) 0 (not-true _ (b .0)),
+      l .0,
       d .0,
       d .1,
       sym g ∙ ap (λ (n : List ℕ). madeBegin asked (stored n)) (sym (d .2)),

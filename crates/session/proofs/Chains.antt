@@ -66,6 +66,11 @@ module _ (asked : Asked) where
         (pass _ _ _ _ (ap not (ne-eqb _ 0 d))
         (need-no _ _ _ _ (ap levelAllowed e ∙ sym f) ∙ ap (λ (l : RequestedPrivilege). refuse 19 (levelByte l)) e))
 
+  -- what is known of the level once they passed
+  pub begin-known : readyBegin asked ≡ accept tt → levelAllowed (asked .level) ≡ true
+  unfolding readyBegin
+  begin-known e = need-inv _ _ _ _ (need-inv _ _ _ _ e .1) .0
+
 -- before the open response is looked at
 module _ (s : Record) (room : ℕ) where
   pub open33 : inStep s 1 ≡ false → refuse 33 0 ≡ readyOpen s room

@@ -11,14 +11,14 @@ use Rattle.sha1.specs.Hash.{hmacSha1}
 use Rattle.sha1.proofs.Laws.{mac-length}
 use Rattle.keys.specs.Codes.{roleName, code2, code3}
 use Rattle.keys.specs.Keys.{keysOf}
-use Rattle.messages.specs.Auth.{isLevel}
 use Rattle.messages.specs.Name.{allowed, stored}
 use Rattle.messages.specs.OpenSession.{Response, openResponse}
 use Rattle.messages.specs.Rakp.{message1, message2, message4}
 use Rattle.messages.specs.declared.«rakp_1».RakpMessage1.{RakpMessage1}
 use Rattle.messages.specs.declared.«rakp_2».RakpMessage2.{RakpMessage2}
 use Rattle.messages.proofs.Names.{stored-whole}
-use Rattle.session.specs.Constants.{openTag, tag1, tag3, role, codeSize, oneSize, threeSize}
+use Rattle.session.specs.Constants.{openTag, tag1, tag3, codeSize, oneSize, threeSize}
+use Rattle.session.specs.Role.{roleOf}
 use Rattle.session.specs.Record.{stepNumber, begunOf, begunWith, agreedOf, answered, keyed, opened}
 use Rattle.session.specs.Steps.{Made, levelAllowed, requestOf, madeBegin, oneTo, madeOpen, openOf, who, codeTwo}
 use Rattle.session.specs.Steps.{sikTwo, codeThree, madeTwo, twoOf, valueFour, fourOf}
@@ -27,6 +27,7 @@ use Rattle.session.specs.System.{second, sikIn, keysIn, agreedIn, valueI
 use Rattle.session.specs.Exchange.{Hears, Opened}
 use Rattle.session.specs.declared.Asked.{Asked}
 use Rattle.session.specs.declared.Record.{Record}
+use Rattle.session.proofs.Role.{role-legal, role-short}
 use Rattle.session.proofs.Accepting.{is-in-step, are-carried, open-accepts, two-accepts, four-accepts, four-refuses}
 use Rattle.session.proofs.Heard.{responseBytes, responseSays, response-heard, twoBytes, twoSays, two-code, two-heard, fourBytes, fourSays, four-heard}
 use Rattle.session.proofs.Heard.{request-tag, request-sidm, request-level, request-taken, one-tag, one-rm, one-who, one-taken, three-tag, three-taken}
@@ -152,8 +153,10 @@ module _ (most : ℕ) (y : System) (r : Regular y) (asked : Asked) (n rm : List 
   proving = madeTwo waiting (y .kg) (y .password) (twoSays tag1 (asked .console) (y .random) (y .guid))
 
   takes-one : TakesOne y (message1 first)
-  unfolding begunWith begunOf isLevel
-  takes-one = one-taken first k y refl (r .small) refl (omega arith) (rw (stored-whole n) l) (rw (stored-whole n) c)
+  unfolding begunWith begunOf
+  takes-one =
+      one-taken first k y refl (r .small) (role-legal (asked .level) d (asked .lookup)) (role-short (asked .level) d (asked .lookup))
+      (rw (stored-whole n) l) (rw (stored-whole n) c)
 
   pub exchanged : StepsAgree most y asked n rm room₁ room₃ (madeBegin asked (stored n))
   unfolding madeBegin madeOpen madeTwo answered begunWith begunOf agreedOf agreedIn keyed opened keysIn fourth stored
@@ -173,7 +176,7 @@ module _ (most : ℕ) (y : System) (r : Regular y) (asked : Asked) (n rm : List 
           console = i;
           takes-one = takes-one;
           random = u;
-          who = one-who first k ∙ ap (roleName role) (stored-whole n);
+          who = one-who first k ∙ ap (roleName (roleOf (asked .level) (asked .lookup))) (stored-whole n);
           takes-three = takes-three y r waiting request one a b l i refl g u v;
         };
         accepts-response = open-taken;

@@ -183,7 +183,7 @@ module _ (s : RakpMessage1) (e : length (s .random) ≡ 16) where
   unfolding rmIn message1
   one-rm = ap (take 16) from-rm ∙ take-at (s .random) _ 16 e
 
-  one-role : roleIn (message1 s) ≡ s .role
+  pub one-role : roleIn (message1 s) ≡ s .role
   unfolding message1
   one-role = ap (λ (l : List ℕ). getD l 16 0) from-rm ∙ getD-at (s .random) (s .role) _ 0 16 e
 

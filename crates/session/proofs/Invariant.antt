@@ -11,11 +11,12 @@ use Rattle.refusal.specs.Table.{among}
 use Rattle.messages.specs.Name.{allowed, nameOf, stored}
 use Rattle.messages.proofs.Names.{stored-whole}
 use Rattle.session.specs.Record.{stepNumber, closed, noneBegun, begunOf, begunWith, answered, keyed, opened}
-use Rattle.session.specs.Steps.{Made, madeBegin, beginOf, openOf, twoOf, fourOf}
+use Rattle.session.specs.Steps.{Made, levelAllowed, madeBegin, beginOf, openOf, twoOf, fourOf}
 use Rattle.session.specs.Promise.{keeping, recordAfter}
 use Rattle.session.specs.Invariant.{Sound, Holds, Reached, by-begin, by-open, by-two, by-four}
 use Rattle.session.specs.declared.Asked.{Asked}
 use Rattle.session.specs.declared.Record.{Record}
+use Rattle.session.proofs.Role.{role-legal, role-short}
 use Rattle.session.proofs.Accepted.{begin-tells, open-tells, two-tells, four-tells}
 
 -- what holds of the record that a step was given, of a closed one, and of each that the step makes, holds of the record after it
@@ -37,6 +38,8 @@ closed-sound =
       legal = refl;
       past = refl;
       console = (λ h z. omega arith);
+      level = (λ h. absurd (omega arith));
+      lookup = (λ h. absurd (omega arith));
       system = (λ h z. omega arith);
       shut = (λ h. refl);
     }
@@ -46,17 +49,19 @@ unfolding closed
 closed-holds asked name = record { begun = (λ h. absurd (omega arith)) }
 
 -- Begin
-begun-sound : (asked : Asked) (n : List ℕ) → length n ≤ 16 → (asked .console ≡ 0 → ⊥) → allowed n ≡ true
+begun-sound : (asked : Asked) (n : List ℕ) → (asked .console ≡ 0 → ⊥) → levelAllowed (asked .level) ≡ true → length n ≤ 16 → allowed n ≡ true
     → Sound (begunWith (begunOf asked (stored n)))
 unfolding begunWith begunOf stored nameOf
-begun-sound asked n l d h =
+begun-sound asked n d g l h =
     record {
       len = l;
       legal = ap allowed (stored-whole n) ∙ h;
       past = drop-at n _ (length n) refl;
-      console = (λ g z. d z);
-      system = (λ g z. omega arith);
-      shut = (λ g. absurd (omega arith));
+      console = (λ t z. d z);
+      level = (λ t. role-legal (asked .level) g (asked .lookup));
+      lookup = (λ t. role-short (asked .level) g (asked .lookup));
+      system = (λ t z. omega arith);
+      shut = (λ t. absurd (omega arith));
     }
 
 begun-holds : (asked : Asked) (name : List ℕ) → Holds asked name (begunWith (begunOf asked (stored name)))
@@ -68,11 +73,11 @@ module _ (asked : Asked) (name : List ℕ) (room : ℕ) where
   unfolding madeBegin
   begin-sound M e =
       let a = begin-tells asked name room M e in
-      rw (a .3) (begun-sound asked name (a .1) (a .0) (a .2))
+      rw (a .4) (begun-sound asked name (a .0) (a .1) (a .2) (a .3))
 
   pub begin-holds : (M : Made) → beginOf asked name room ≡ accept M → Holds asked name (M .next)
   unfolding madeBegin
-  begin-holds M e = rw (begin-tells asked name room M e .3) (begun-holds asked name)
+  begin-holds M e = rw (begin-tells asked name room M e .4) (begun-holds asked name)
 
 -- a step that goes on keeps what Begin fixed
 module _ (s t : Record) (u : t .begun ≡ s .begun) (b : 1 ≤ stepNumber (s .step)) where
@@ -83,6 +88,8 @@ module _ (s t : Record) (u : t .begun ≡ s .begun) (b : 1 ≤ stepNumber (s .st
         legal = rw u (h .legal);
         past = rw u (h .past);
         console = (λ g. rw u (h .console b));
+        level = (λ g. rw u (h .level b));
+        lookup = (λ g. rw u (h .lookup b));
         system = (λ g. d);
         shut = (λ g. absurd (omega arith));
       }

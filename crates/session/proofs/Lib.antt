@@ -1,6 +1,7 @@
 pub mod Stages
 pub mod Refusals
 pub mod Chains
+pub mod Role
 pub mod Makes
 pub mod Accepted
 pub mod Invariant
@@ -11,3 +12,4 @@ pub mod Exchange
 pub mod Only
 pub mod Calls
 pub mod Named
+pub mod Rights

@@ -18,14 +18,13 @@ use Rattle.refusal.specs.declared.Outcome.the-variants.{Done}
 use Rattle.refusal.proofs.Order.{refuse≢accept, pass, need-past, need-own, then-need, then-accept, done-need, done-yes, done-no}
 use Rattle.octets.specs.Place.{begun}
 use Rattle.octets.proofs.Place.{begun-none}
-use Rattle.keys.specs.Codes.{roleName}
 use Rattle.messages.specs.Name.{allowed, longestName, usernameOf, nameOf, stored}
 use Rattle.messages.specs.OpenSession.{levelByte}
 use Rattle.messages.specs.Rakp.{declined3}
 use Rattle.messages.proofs.Names.{stored-whole}
-use Rattle.session.specs.Constants.{role, requestSize, oneSize}
+use Rattle.session.specs.Constants.{requestSize, oneSize}
 use Rattle.session.specs.Record.{stepNumber, closed, begunOf, begunWith}
-use Rattle.session.specs.Steps.{Made, levelAllowed, readyBegin, madeBegin, beginOf, oneTo, openOf, who, threeOf}
+use Rattle.session.specs.Steps.{Made, levelAllowed, readyBegin, madeBegin, beginOf, oneTo, openOf, threeOf}
 use Rattle.session.specs.Promise.{keeping, recordAfter, written}
 use Rattle.session.specs.Invariant.{Reached, by-begin, by-open, by-two, by-four}
 use Rattle.session.specs.System.{nameIn}
@@ -41,7 +40,7 @@ use Rattle.session.proofs.Invariant.{reached-sound, reached-holds}
 use Rattle.session.proofs.Heard.{one-size, one-count, one-rest}
 use Rattle.session.proofs.Calls.{BeginCall, OpenCall, TwoCall, FourCall, nameLent, seenBegin, seenOpen, random-sixteen, made-sent}
 
--- a record that waits for a step or is open holds the name that Begin was given, and N is made of it
+-- a record that waits for a step or is open holds the name that Begin was given
 module _ (asked : Asked) (name : List ℕ) (s : Record) (r : Reached asked name s) (h : 1 ≤ stepNumber (s .step)) where
   pub name-held : nameOf (s .begun .username) ≡ name
   unfolding begunOf
@@ -53,10 +52,6 @@ module _ (asked : Asked) (name : List ℕ) (s : Record) (r : Reached asked name 
       let n = ap (λ (b : Begun). b .username .len) (reached-holds asked name s r .begun h) in
       let t = reached-sound asked name s r in
       (subst (λ (k : ℕ). k ≤ longestName) n (t .len), ap allowed (sym name-held) ∙ t .legal)
-
-  pub who-held : who s ≡ roleName role name
-  unfolding who
-  who-held = ap (roleName role) name-held
 
 -- message 1 names the user that Begin was given
 pub open-names : (asked : Asked) (name : List ℕ) (s : Record) → Reached asked name s → (m rm : List ℕ) (room : ℕ) (M : Made)
@@ -180,4 +175,4 @@ module _ (c : BeginCall) where
   unfolding madeBegin
   begin-whole e =
       let a = done-yes _ (sym (c .kept .answer) ∙ ap told e) in
-      c .kept .next ∙ ap (recordAfter closed) (a .1) ∙ ap (λ (M : Made). M .next) (begin-tells _ _ _ _ (a .1) .3)
+      c .kept .next ∙ ap (recordAfter closed) (a .1) ∙ ap (λ (M : Made). M .next) (begin-tells _ _ _ _ (a .1) .4)

@@ -1,4 +1,4 @@
--- The numbers that the steps name (docs/RULES.md, 35 and 36 in the table of section 1; 5.6; 7.1 to 7.5).
+-- The numbers that the steps name (docs/RULES.md, 35 and 36 in the table of section 1; 5.6; 7.1 to 7.5 and 7.15).
 use Prim.Native.Nat.{ℕ, _+_}
 use mathlib.Core.Bool.{Bool, _||_}
 use lib.Dec.{eqb}
@@ -13,9 +13,13 @@ tag1 = 0x0d
 abbrev pub tag3 : ℕ
 tag3 = 0x0a
 
--- the role that message 1 asks for and that each code covers
-abbrev pub role : ℕ
-role = 0x04
+-- the level of the role where none was asked for, the administrator's
+abbrev pub administrator : ℕ
+administrator = 0x04
+
+-- the role's bit 4, which asks for a lookup by name only
+abbrev pub nameOnly : ℕ
+nameOnly = 0x10
 
 -- a Kg has twenty bytes, or none was lent
 abbrev pub kgSize : ℕ

@@ -1,9 +1,10 @@
--- What holds of every record that the steps make (docs/RULES.md, 7.1, 7.2, 7.6 and 7.14). Proved of them, and asked for by no call.
-use Prim.Native.Nat.{ℕ, _-_, _≤_}
+-- What holds of every record that the steps make (docs/RULES.md, 7.1, 7.2, 7.6, 7.14 and 7.15). Proved of them, and asked for by no call.
+use Prim.Native.Nat.{ℕ, _-_, _%_, _≤_, _<_}
 use mathlib.Core.Bool.{true}
 use mathlib.Core.List.{List}
 use mathlib.Core.Path.{_≡_}
 use lib.ListN.{drop, replicate}
+use Rattle.messages.specs.Auth.{isLevel}
 use Rattle.messages.specs.Name.{allowed, nameOf, stored}
 use Rattle.session.specs.Record.{stepNumber, closed, begunOf}
 use Rattle.session.specs.Steps.{beginOf, openOf, twoOf, fourOf}
@@ -11,17 +12,20 @@ use Rattle.session.specs.Promise.{recordAfter}
 use Rattle.session.specs.declared.Asked.{Asked}
 use Rattle.session.specs.declared.Record.{Record}
 
--- the name has at most sixteen bytes, each ASCII and not zero, and zeros stand past it; the console's id is not zero once a step is
--- waited for, nor the system's once its response was taken; and where no step is waited for, all is zero
+-- the name has at most sixteen bytes, each ASCII and not zero, and zeros stand past it; once a step is waited for, the console's id is not
+-- zero, and the role is a level beside bit 4; nor is the system's id zero once its response was taken; and where no step is waited for, all
+-- is zero
 pub record Sound (s : Record) : Type 0 where
   pub len : s .begun .username .len ≤ 16
   pub legal : allowed (nameOf (s .begun .username)) ≡ true
   pub past : drop (s .begun .username .len) (s .begun .username .bytes) ≡ replicate (16 - s .begun .username .len) 0
   pub console : 1 ≤ stepNumber (s .step) → s .begun .console ≡ 0 → ⊥
+  pub level : 1 ≤ stepNumber (s .step) → isLevel (s .begun .role % 16) ≡ true
+  pub lookup : 1 ≤ stepNumber (s .step) → s .begun .role < 32
   pub system : 2 ≤ stepNumber (s .step) → s .system ≡ 0 → ⊥
   pub shut : stepNumber (s .step) ≡ 0 → s ≡ closed
 
--- what Begin fixed is what it was given, until the record closes
+-- what Begin fixed, the console's id, the role and the name, is what it was given, until the record closes
 pub record Holds (asked : Asked) (name : List ℕ) (s : Record) : Type 0 where
   pub begun : 1 ≤ stepNumber (s .step) → s .begun ≡ begunOf asked (stored name)
 

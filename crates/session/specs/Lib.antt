@@ -1,4 +1,5 @@
 pub mod Constants
+pub mod Role
 pub mod Record
 pub mod Steps
 pub mod Parts

@@ -10,6 +10,7 @@ use Rattle.keys.specs.Keys.{keysOf}
 use Rattle.keys.specs.declared.keys.Keys.{Keys}
 use Rattle.messages.specs.OpenSession.{Response}
 use Rattle.messages.specs.declared.«rakp_1».Username.{Username}
+use Rattle.session.specs.Role.{roleOf}
 use Rattle.session.specs.declared.Asked.{Asked}
 use Rattle.session.specs.declared.Begun.{Begun}
 use Rattle.session.specs.declared.Agreed.{Agreed}
@@ -34,7 +35,7 @@ noKeys = record { sik = replicate 20 0; k1 = replicate 20 0; k2 = replicate 20 0
 
 -- before Begin, and before the open response
 unfoldable pub noneBegun : Begun
-noneBegun = record { console = 0; username = record { bytes = replicate 16 0; len = 0 } }
+noneBegun = record { console = 0; role = 0; username = record { bytes = replicate 16 0; len = 0 } }
 
 unfoldable pub noneAgreed : Agreed
 noneAgreed = record { confidentiality = C.the-variants.None; integrity = I.the-variants.None }
@@ -52,9 +53,9 @@ closed =
       agreed = noneAgreed;
     }
 
--- what Begin fixes: the console's own id and the name
+-- what Begin fixes: the console's own id, the role and the name
 unfoldable pub begunOf : Asked → Username → Begun
-begunOf asked username = record { console = asked .console; username = username }
+begunOf asked username = record { console = asked .console; role = roleOf (asked .level) (asked .lookup); username = username }
 
 -- after Begin: what it fixed
 unfoldable pub begunWith : Begun → Record

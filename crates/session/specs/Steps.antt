@@ -25,7 +25,7 @@ use Rattle.messages.specs.declared.«rakp_1».Username.{Username}
 use Rattle.messages.specs.declared.«rakp_2».RakpMessage2.{RakpMessage2}
 use Rattle.messages.specs.declared.«rakp_3».RakpMessage3.{RakpMessage3}
 use Rattle.messages.specs.declared.«rakp_4».RakpMessage4.{RakpMessage4}
-use Rattle.session.specs.Constants.{openTag, tag1, tag3, role, legalKg, codeSize, valueSize, requestSize, oneSize, threeSize}
+use Rattle.session.specs.Constants.{openTag, tag1, tag3, legalKg, codeSize, valueSize, requestSize, oneSize, threeSize}
 use Rattle.session.specs.Record.{inStep, begunOf, begunWith, answered, keyed, opened}
 use Rattle.session.specs.declared.Asked.{Asked}
 use Rattle.session.specs.declared.Record.{Record}
@@ -87,7 +87,7 @@ heardOpen s m =
 
 -- message 1 to the system with this id
 abbrev pub oneTo : ℕ → Record → List ℕ → RakpMessage1
-oneTo system s rm = record { tag = tag1; system = system; random = rm; role = role; username = s .begun .username }
+oneTo system s rm = record { tag = tag1; system = system; random = rm; role = s .begun .role; username = s .begun .username }
 
 unfoldable pub madeOpen : Record → List ℕ → Response → Made
 madeOpen s rm r = record { next = answered s r rm; bytes = message1 (oneTo (r .system) s rm) }
@@ -114,7 +114,7 @@ heardTwo s m =
 
 -- N of a record
 unfoldable pub who : Record → List ℕ
-who s = roleName role (nameOf (s .begun .username))
+who s = roleName (s .begun .role) (nameOf (s .begun .username))
 
 -- the code that message 2 ought to carry
 unfoldable pub codeTwo : Record → List ℕ → RakpMessage2 → List ℕ

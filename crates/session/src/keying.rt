@@ -11,7 +11,6 @@ ghost use Rattle.session.specs.Record.{keyed};
 ghost use Rattle.session.specs.Steps.{readyTwo, heardTwo, codeTwo, sikTwo, codeThree, madeTwo, provedTwo, twoOf};
 ghost use Rattle.session.specs.Parts.{HeardTwo};
 ghost use Rattle.session.specs.Promise.{StepPromise};
-use crate::ROLE;
 use crate::Record;
 use crate::Step;
 use crate::Stepped;
@@ -127,7 +126,7 @@ fn check_code(state: Record, password: &[u8], message: &[u8], f: RakpMessage2) -
         rm,
         rc,
         guid,
-        ROLE,
+        begun.role,
         name,
         u.len,
     );
@@ -147,7 +146,7 @@ fn compute_sik<'a>(state: Record, kg: &'a [u8], password: &'a [u8], f: RakpMessa
     let name = u.bytes;
     let rm = state.rm;
     let rc = f.random;
-    let h = keys::state::sik(kg, password, rm, rc, ROLE, name, u.len);
+    let h = keys::state::sik(kg, password, rm, rc, begun.role, name, u.len);
     h.digest
 }
 
@@ -160,7 +159,7 @@ fn compute_code_3(state: Record, password: &[u8], f: RakpMessage2) -> [u8; CODE_
     let u = begun.username;
     let name = u.bytes;
     let rc = f.random;
-    let h = keys::state::message_3_code(password, rc, begun.console, ROLE, name, u.len);
+    let h = keys::state::message_3_code(password, rc, begun.console, begun.role, name, u.len);
     h.digest
 }
 

@@ -25,9 +25,6 @@ pub(crate) const TAG_1: u8 = 0x0d;
 
 pub(crate) const TAG_3: u8 = 0x0a;
 
-// The role that message 1 asks for and that each code covers.
-pub(crate) const ROLE: u8 = 0x04;
-
 // Where an exchange stands: what it waits for next.
 pub enum Step {
     Closed,
@@ -37,15 +34,24 @@ pub enum Step {
     Open,
 }
 
-// What Begin is asked for, beside the user's name: the console's own id, and the privilege level.
+// By what the system finds the user's account: by name and level both, or by name only.
+pub enum Lookup {
+    NameAndLevel,
+    NameOnly,
+}
+
+// What Begin is asked for, beside the user's name: the console's own id, the privilege level, and how the user is looked up.
 pub struct Asked {
     pub console: u32,
     pub level: RequestedPrivilege,
+    pub lookup: Lookup,
 }
 
-// What Begin fixed; every later step hands it on as it is.
+// What Begin fixed; every later step hands it on as it is. The role is the level and the kind of lookup in one byte: message 1 asks for it,
+// and each code covers it.
 pub struct Begun {
     pub console: u32,
+    pub role: u8,
     pub username: Username,
 }
 

@@ -1,4 +1,5 @@
 // Begin: the open session request.
+ghost use mathlib.Core.Bool.{true};
 ghost use mathlib.Core.Path.{_≡_};
 ghost use Prim.Native.Nat.{_≤_};
 ghost use lib.ListN.{length};
@@ -6,10 +7,12 @@ ghost use Rattle.refusal.specs.Order.{accept};
 ghost use Rattle.refusal.specs.Outcome.{told};
 ghost use Rattle.session.specs.Constants.{requestSize};
 ghost use Rattle.session.specs.Record.{closed, begunOf, begunWith};
-ghost use Rattle.session.specs.Steps.{readyBegin, madeBegin, beginOf};
+ghost use Rattle.session.specs.Role.{levelOf, roleOf};
+ghost use Rattle.session.specs.Steps.{levelAllowed, readyBegin, madeBegin, beginOf};
 ghost use Rattle.session.specs.Promise.{StepPromise};
 use crate::Asked;
 use crate::Begun;
+use crate::Lookup;
 use crate::OPEN_TAG;
 use crate::Record;
 use crate::Step;
@@ -26,6 +29,12 @@ use refusal::Refusal;
 
 // How many bytes the request has.
 const REQUEST_LEN: usize = 32;
+
+// The level of the role where none was asked for.
+const ADMINISTRATOR: u8 = 0x04;
+
+// The role's bit that asks for a lookup by name only.
+const NAME_ONLY: u8 = 0x10;
 
 // The tests on the id and the level.
 fn check_asked(asked: Asked) -> Outcome
@@ -44,12 +53,38 @@ fn check_asked(asked: Asked) -> Outcome
     Outcome::Refused(Refusal::InvalidPrivilegeLevel(b))
 }
 
+// The level that the role asks for.
+fn choose_level(level: RequestedPrivilege) -> u8
+    ensures { λ r. ⌜ r ≡ levelOf level ⌝ }
+{
+    match level {
+        RequestedPrivilege::None => ADMINISTRATOR,
+        RequestedPrivilege::Level(b) => b,
+    }
+}
+
+// The role that message 1 and the codes have.
+fn make_role(level: RequestedPrivilege, lookup: Lookup) -> u8
+    requires { ⌜ levelAllowed level ≡ true ⌝ }
+    ensures { λ r. ⌜ r ≡ roleOf level lookup ⌝ }
+{
+    let b = choose_level(level);
+    match lookup {
+        Lookup::NameAndLevel => b,
+        Lookup::NameOnly => b + NAME_ONLY,
+    }
+}
+
 // What Begin fixes for the whole exchange.
 fn fix_begun(asked: Asked, username: Username) -> Begun
+    requires { ⌜ levelAllowed (asked .level) ≡ true ⌝ }
     ensures { λ r. ⌜ r ≡ begunOf asked username ⌝ }
 {
+    let level = asked.level;
+    let lookup = asked.lookup;
     Begun {
         console: asked.console,
+        role: make_role(level, lookup),
         username,
     }
 }
@@ -71,9 +106,10 @@ fn start_record(begun: Begun) -> Record
 
 // Writes the request, beside the record of what was begun.
 fn write_request(asked: Asked, username: Username, out: &mut [u8]) -> Stepped
-    requires { ⌜ requestSize ≤ length (now out) ⌝ }
+    requires { ⌜ (requestSize ≤ length (now out)) × (levelAllowed (asked .level) ≡ true) ⌝ }
     ensures { λ r. ⌜ StepPromise (accept (madeBegin asked username)) closed (now (out .entry)) r (now (out .exit)) ⌝ }
 {
+    let begun = fix_begun(asked, username);
     let level = asked.level;
     let request = OpenSessionRequest {
         tag: OPEN_TAG,
@@ -85,7 +121,7 @@ fn write_request(asked: Asked, username: Username, out: &mut [u8]) -> Stepped
     };
     request.write_data(out);
     Stepped {
-        state: start_record(fix_begun(asked, username)),
+        state: start_record(begun),
         answer: Outcome::Done,
         len: REQUEST_LEN,
     }

@@ -13,7 +13,6 @@ ghost use Rattle.session.specs.Steps.{carried, readyOpen, heardOpen, mad
 ghost use Rattle.session.specs.Promise.{StepPromise};
 use crate::Agreed;
 use crate::OPEN_TAG;
-use crate::ROLE;
 use crate::Record;
 use crate::Step;
 use crate::Stepped;
@@ -152,7 +151,7 @@ fn write_message_1(state: Record, r: OpenSessionResponse, rm: [u8; 16], out: &mu
         tag: TAG_1,
         system: r.system,
         random: rm,
-        role: ROLE,
+        role: begun.role,
         username,
     };
     message.write(out);

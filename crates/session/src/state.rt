@@ -71,6 +71,7 @@ pub(crate) fn make_closed() -> Record
         step: Step::Closed,
         begun: Begun {
             console: 0,
+            role: 0,
             username: Username {
                 bytes: [0u8; 16],
                 len: 0,

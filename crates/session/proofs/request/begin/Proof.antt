@@ -12,11 +12,19 @@ use mathlib.Core.Path.{refl, sym, _∙_, ap}
 use Rattle.refusal.proofs.Order.{then-refuse, need-no, pass}
 use Rattle.messages.proofs.Answered.{passed-name, refused-name}
 use Rattle.messages.proofs.Reading.{test-passed, test-refused}
+use Rattle.session.proofs.Chains.{begin-known}
 use Rattle.session.proofs.Refusals.{ready-begin-quiet, username-quiet}
 use Rattle.session.proofs.Stages.{begin-stop, second-stop, second-go, promise-as}
 use borrow.Author.Needs.{needs}
 use Rattle.session.proofs.request.begin.Statement.{statement}
 use Rattle.session.proofs.request.begin.Tie as tie
+
+write-request-requires : tie.Need-write-request-requires
+write-request-requires c κs =
+    let a = c .before .before .before .before .before .before .before .before .before .before .before .args in
+    let call = c .before .before .before .before .before .before .before .before .check-asked .ensures in
+    let t = test-passed _ _ call (c .before .before .before .before .before .before .enum-told .given .1) in
+    (omega arith, begin-known (a .asked) t)
 
 returns : tie.Need-returns
 unfolding beginOf
@@ -77,7 +85,7 @@ begin-spec =
     (λ c κs. search needs)
     (λ c κs. search needs)
     returns
-    (λ c κs. search needs)
+    write-request-requires
     returns-2
     returns-3
     (λ c. search needs)

@@ -10,8 +10,9 @@ returns : tie.Need-returns
 unfolding requestOf
 returns c =
     let a = c .before .before .before .before .before .before .before .args in
-    let wrote = c .before .before .before .before .write-data .ensures in
-    begin-made (a .asked) (a .username) (a .out .now) _ _ _ _ (c .before .fix-begun .ensures) (c .start-record .ensures) wrote (omega arith)
+    let fixed = c .before .before .before .before .before .fix-begun .ensures in
+    let wrote = c .before .before .before .write-data .ensures in
+    begin-made (a .asked) (a .username) (a .out .now) _ _ _ _ fixed (c .start-record .ensures) wrote (omega arith)
 
 pub write-request-spec : {M : Type 1} → statement M
 write-request-spec =

@@ -55,8 +55,9 @@ def role_scripts(d):
         for other in ASKED:
             again = calls({**e, "level": other[0], "lookup": other[1]})["begin"]
             for n in range(5):
-                yield script(*done[:n], again, *done[max(n, 1):])
                 yield script(*done[:n], again, *done[1:])
+                if n > 1:
+                    yield script(*done[:n], again, *done[n:])
             yield script(again, *done)
         for refused in (dict(own=0), dict(level=6), dict(level=0), dict(name=b"\0")):
             for n in range(5):
@@ -70,13 +71,13 @@ def role_lines(d):
     """Lookups that are none, and lines with a field too many; each before a line that is a case."""
     e = good(d, level=2, name=b"view")
     c = calls(e)
+    yield script(c["begin"], "%s 0" % c["open"])
+    yield script(c["begin"], c["open"], "%s 1" % c["m2"])
+    yield script(c["begin"], c["open"], c["m2"], "%s 0" % c["m4"])
     for other in OTHER:
         yield steps(e) + " %s" % other
         yield steps(good(d, lookup=1))
         yield script("%s %s" % (c["begin"], other), c["open"])
-        yield script(c["begin"], "%s 0" % c["open"])
-        yield script(c["begin"], c["open"], "%s 1" % c["m2"])
-        yield script(c["begin"], c["open"], c["m2"], "%s 0" % c["m4"])
         yield script(*[calls(good(d, level=3, lookup=1))[k] for k in ("begin", "open", "m2", "m4")])
 
 

@@ -8,7 +8,8 @@ ORDER = ("kg", "level", "name", "password", "own", "rm", "opened", "m2", "m4")
 def good(d, **chosen):
     """The fields of an exchange that opens a session; what is chosen is taken, the rest is drawn or follows. Message 2 has zeros at 1,
     where its status is, and at 2, where the Rust reads one; its code is that of a name cut at sixteen bytes, as the Rust cuts one. The
-    level drawn asks for the role 04, the only one that the Rust has; the system takes whichever is asked for."""
+    level drawn asks for the role 04, the only one that the Rust has; the system takes whichever is asked for. It is one draw of six, as
+    it was while every level was drawn, so that all other draws stay the same."""
     e = dict(kg=d.bytes(20) if d.below(2) else b"", level=d.one((None, None, None, 4, 4, 4)), lookup=None, own=1 + d.below(2 ** 32 - 1),
              rm=d.bytes(16), rc=d.bytes(16), guid=d.bytes(16), password=d.bytes(d.below(24)), system=d.bytes(3) + b"\x01",
              name=bytes(33 + b % 94 for b in d.bytes(d.below(20))[:16]), auth=1, integ=d.below(2), conf=d.below(2), codelen=20)

@@ -15,8 +15,8 @@ struct Steps {
     answers: [Vec<u8>; 3],
 }
 
-/// Whether what may stand behind a case's other fields is well formed: how the user is looked up, to which the crate has no counterpart.
-fn looks_up(more: &[&[u8]]) -> Option<()> {
+/// What may stand behind a case's other fields: how the user is looked up. The crate has no such thing, so it is only seen to be well formed.
+fn check_lookup(more: &[&[u8]]) -> Option<()> {
     match more {
         [] => Some(()),
         [lookup] => number(lookup, 1).map(|_| ()),
@@ -26,7 +26,7 @@ fn looks_up(more: &[&[u8]]) -> Option<()> {
 
 pub fn steps(f: &[&[u8]]) -> Option<String> {
     let [kg, given, name, password, own, rm, opened, m2, m4, more @ ..] = f else { return None };
-    looks_up(more)?;
+    check_lookup(more)?;
     let case = Steps {
         kg: hex(kg)?,
         level: level(given)?,
@@ -115,7 +115,7 @@ fn call(text: &[u8]) -> Option<Call> {
     let f: Vec<&[u8]> = text.split(|c| *c == b' ').collect();
     Some(match f[..] {
         [b"begin", own, given, name, r, ref more @ ..] => {
-            looks_up(more)?;
+            check_lookup(more)?;
             Call::Begin(word(own)?, level(given)?, hex(name)?, room(r)?)
         }
         [b"open", r, opened, rm] => Call::Open(room(r)?, hex(opened)?, hex_of(rm)?),

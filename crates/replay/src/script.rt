@@ -58,7 +58,8 @@ fn form_begin() -> Form {
     }
 }
 
-// The others: `open ROOM OPENED RM`, `m2 ROOM KG PASSWORD MSG` and `m4 MSG`.
+// The call whose word is the k-th. Those without a form of their own: `open ROOM OPENED RM`, `m2 ROOM KG PASSWORD MSG` and `m4 MSG`, each behind a
+// space.
 fn form_call(k: usize) -> Form {
     match k {
         0 => form_begin(),

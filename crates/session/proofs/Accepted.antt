@@ -13,13 +13,13 @@ use Rattle.octets.specs.Place.{part}
 use Rattle.octets.proofs.Equal.{same-true}
 use Rattle.messages.specs.Name.{allowed, longestName, stored}
 use Rattle.messages.specs.OpenSession.{Response, openChecked, openNumbers, openFields, openResponse}
-use Rattle.messages.specs.Rakp.{message1, fields4, message4}
+use Rattle.messages.specs.Rakp.{message1, message3, fields4, message4}
 use Rattle.messages.specs.declared.«rakp_2».RakpMessage2.{RakpMessage2}
 use Rattle.messages.specs.declared.«rakp_4».RakpMessage4.{RakpMessage4}
 use Rattle.messages.proofs.Names.{taken-name}
 use Rattle.session.specs.Record.{stepNumber, inStep, answered, keyed, opened}
 use Rattle.session.specs.Steps.{Made, levelAllowed, readyBegin, madeBegin, beginOf, readyOpen, heardOpen, oneTo, madeOpen, openOf}
-use Rattle.session.specs.Steps.{readyTwo, sikTwo, madeTwo, provedTwo, twoOf, readyFour, valueFour, heardFour, fourOf}
+use Rattle.session.specs.Steps.{readyTwo, heardTwo, codeTwo, sikTwo, codeThree, threeOf, madeTwo, provedTwo, twoOf, readyFour, valueFour, heardFour, fourOf}
 use Rattle.session.specs.declared.Asked.{Asked}
 use Rattle.session.specs.declared.Record.{Record}
 
@@ -96,15 +96,26 @@ open-tells s m rm room M e =
 
 -- message 2
 pub two-tells : (most : ℕ) (s : Record) (kg password m : List ℕ) (room : ℕ) (M : Made) → twoOf most s kg password m room ≡ accept M
-    → (f : RakpMessage2) × (stepNumber (s .step) ≡ 2) × (M .next ≡ keyed s (f .guid) (sikTwo s kg password f))
+    → (f : RakpMessage2)
+    × (stepNumber (s .step) ≡ 2)
+    × (M .next ≡ keyed s (f .guid) (sikTwo s kg password f))
+    × (M .bytes ≡ message3 (threeOf s) (codeThree s password f))
+    × (heardTwo s m ≡ accept f)
+    × (drop (f .code .at) m ≡ codeTwo s password f)
 unfolding twoOf readyTwo provedTwo madeTwo
 two-tells most s kg password m room M e =
     let a = then-inv _ _ _ e in
     let b = need-inv _ _ _ _ (a .1) in
     let c = then-inv _ _ _ (a .2) in
     let d = need-inv _ _ _ _ (c .2) in
-    let w : madeTwo s kg password (c .0) ≡ M = accept-inj _ _ (d .1) in
-    (c .0, in-step s 2 (b .0) .0, ap (λ (x : Made). x .next) (sym w))
+    let w : madeTwo s kg password (c .0) ≡ M = accept-inj _ _ (d .1) in (
+      c .0,
+      in-step s 2 (b .0) .0,
+      ap (λ (x : Made). x .next) (sym w),
+      ap (λ (x : Made). x .bytes) (sym w),
+      c .1,
+      same-true _ _ (d .0),
+    )
 
 -- message 4: the value was compared, and it is the one of the definitions
 pub four-tells : (s : Record) (m : List ℕ) (M : Made) → fourOf s m ≡ accept M

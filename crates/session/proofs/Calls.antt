@@ -98,7 +98,7 @@ module _ (R : Res Made) (M : Made) (s : Record) (c : Seen) (p : StepPromise R s 
   made : StepPromise (accept M) s (c .lent) (c .answer) (c .left)
   made = rw e at p
 
-  made-next : c .answer .state ≡ M .next
+  pub made-next : c .answer .state ≡ M .next
   made-next = made .next
 
   pub made-sent : sent c ≡ M .bytes

@@ -1,7 +1,6 @@
 -- A whole exchange over the definitions of the steps: a console that has begun, and a system that follows the definitions with the
 -- same password and the same Kg, take each other's messages and end with the same keys. proofs/Calls carries it to the calls.
 use Prim.Native.Nat.{ℕ, _^_, _≤_, _<_}
-use native.Mathlib.Omega.{arith}
 use mathlib.Core.Bool.{true}
 use mathlib.Core.List.{List, [], _++_}
 use mathlib.Core.Path.{_≡_, refl, sym, _∙_, ap, ap₂}
@@ -18,7 +17,7 @@ use Rattle.messages.specs.declared.«rakp_1».RakpMessage1.{RakpMessage1}
 use Rattle.messages.specs.declared.«rakp_2».RakpMessage2.{RakpMessage2}
 use Rattle.messages.proofs.Names.{stored-whole}
 use Rattle.session.specs.Constants.{openTag, tag1, tag3, codeSize, oneSize, threeSize}
-use Rattle.session.specs.Role.{roleOf}
+use Rattle.session.specs.Role.{roleAsked}
 use Rattle.session.specs.Record.{stepNumber, begunOf, begunWith, agreedOf, answered, keyed, opened}
 use Rattle.session.specs.Steps.{Made, levelAllowed, requestOf, madeBegin, oneTo, madeOpen, openOf, who, codeTwo}
 use Rattle.session.specs.Steps.{sikTwo, codeThree, madeTwo, twoOf, valueFour, fourOf}
@@ -176,7 +175,7 @@ module _ (most : ℕ) (y : System) (r : Regular y) (asked : Asked) (n rm : List 
           console = i;
           takes-one = takes-one;
           random = u;
-          who = one-who first k ∙ ap (roleName (roleOf (asked .level) (asked .lookup))) (stored-whole n);
+          who = one-who first k ∙ ap (roleName (roleAsked asked)) (stored-whole n);
           takes-three = takes-three y r waiting request one a b l i refl g u v;
         };
         accepts-response = open-taken;

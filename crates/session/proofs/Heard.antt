@@ -1,13 +1,13 @@
 -- What each side reads in the messages of the other.
 use Prim.Native.Nat.{ℕ, _+_, _-_, _%_, _^_, _≤_, _<_}
 use native.Mathlib.Omega.{arith}
-use mathlib.Core.Bool.{true, and-eq-true-iff}
+use mathlib.Core.Bool.{true}
 use mathlib.Core.List.{List, [], _∷_, _++_, append-assoc}
 use mathlib.Core.Path.{_≡_, refl, sym, _∙_, ap, ap₂}
 use lib.Dec.{leb}
 use lib.ListN.{length, getD, take, drop, replicate, length-append}
 use lib.Seq.{take-at, drop-at, take-length, getD-at, getD-append-add}
-use borrow.Author.Tests.{eq-eqb, le-leb, leb-true}
+use borrow.Author.Tests.{eq-eqb, le-leb}
 use Rattle.refusal.specs.Order.{accept}
 use Rattle.refusal.proofs.Order.{pass, then-accept}
 use Rattle.octets.specs.Number.{le, unle}
@@ -33,6 +33,7 @@ use Rattle.session.specs.Constants.{openTag, codeSize}
 use Rattle.session.specs.Steps.{levelAllowed, requestOf}
 use Rattle.session.specs.System.{System, levelIn, sidmIn, rmIn, roleIn, nameSizeIn, nameIn, whoIn, TakesRequest, TakesOne, TakesThree}
 use Rattle.session.specs.declared.Asked.{Asked}
+use Rattle.session.proofs.Role.{level-most}
 
 -- an id comes back from its four bytes
 id-back : (n : ℕ) → n < 2 ^ 32 → unle (le 4 n) ≡ n
@@ -140,9 +141,8 @@ unfolding requestOf openRequest
 request-level asked = refl
 
 level-short : (l : RequestedPrivilege) → levelAllowed l ≡ true → levelByte l ≤ 5
-unfolding isLevel
 level-short None h = omega arith
-level-short (Level b) h = leb-true b 5 (and-eq-true-iff (leb 1 b) (leb b 5) .0 h .1)
+level-short (Level b) h = level-most b h
 
 pub request-taken : (asked : Asked) → asked .console < 2 ^ 32 → (asked .console ≡ 0 → ⊥) → levelAllowed (asked .level) ≡ true
     → TakesRequest (requestOf asked)

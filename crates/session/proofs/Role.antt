@@ -9,7 +9,6 @@ use borrow.Author.Tests.{leb-true}
 use Rattle.messages.specs.Auth.{isLevel}
 use Rattle.messages.specs.declared.«open_session».RequestedPrivilege.{RequestedPrivilege}
 use Rattle.messages.specs.declared.«open_session».RequestedPrivilege.the-variants.{None, Level}
-use Rattle.session.specs.Constants.{administrator}
 use Rattle.session.specs.Role.{levelOf, lookupBit, roleOf}
 use Rattle.session.specs.Steps.{levelAllowed}
 use Rattle.session.specs.declared.Lookup.{Lookup}
@@ -20,7 +19,7 @@ unfolding isLevel
 level-legal None h = refl
 level-legal (Level b) h = h
 
-level-most : (b : ℕ) → isLevel b ≡ true → b ≤ 5
+pub level-most : (b : ℕ) → isLevel b ≡ true → b ≤ 5
 unfolding isLevel
 level-most b h = leb-true b 5 (and-eq-true-iff (leb 1 b) (leb b 5) .0 h .1)
 
@@ -47,8 +46,8 @@ module _ (l : RequestedPrivilege) (h : levelAllowed l ≡ true) where
   pub role-legal : (k : Lookup) → isLevel (roleOf l k % 16) ≡ true
   role-legal k = ap isLevel (role-level k) ∙ level-legal l h
 
-  -- the only role that the Rust has is asked for by the administrator's level, named or not, looked up by name and level
-  pub role-is-04 : (k : Lookup) → (roleOf l k ≡ administrator) ↔ ((levelOf l ≡ administrator) × (k ≡ NameAndLevel))
-  unfolding roleOf
-  role-is-04 NameAndLevel = ((λ e. (omega arith, refl)), (λ e. omega arith))
-  role-is-04 NameOnly = ((λ e. absurd (omega arith)), (λ e. let z = ap lookupBit (e .1) in absurd (omega arith)))
+-- 04, the only role that the Rust has, is asked for by level 4 or none, looked up by name and level
+pub role-is-04 : (l : RequestedPrivilege) (k : Lookup) → (roleOf l k ≡ 0x04) ↔ ((levelOf l ≡ 0x04) × (k ≡ NameAndLevel))
+unfolding roleOf
+role-is-04 l NameAndLevel = ((λ e. (omega arith, refl)), (λ e. omega arith))
+role-is-04 l NameOnly = ((λ e. absurd (omega arith)), (λ e. let z = ap lookupBit (e .1) in absurd (omega arith)))

@@ -11,11 +11,10 @@ use Rattle.refusal.specs.Order.{refuse}
 use Rattle.refusal.specs.Outcome.{told}
 use Rattle.refusal.specs.declared.Outcome.the-variants.{Done}
 use Rattle.octets.specs.Place.{begun}
-use Rattle.keys.specs.Codes.{roleName}
 use Rattle.messages.specs.Name.{allowed, longestName}
 use Rattle.messages.specs.OpenSession.{levelByte}
 use Rattle.session.specs.Constants.{longestPassword, requestSize, oneSize, threeSize}
-use Rattle.session.specs.Role.{roleOf}
+use Rattle.session.specs.Role.{whoAsked}
 use Rattle.session.specs.Record.{closed, noKeys, noneAgreed}
 use Rattle.session.specs.Steps.{levelAllowed}
 use Rattle.session.specs.Promise.{sessionWith}
@@ -62,7 +61,7 @@ pub record Hears (y : System) (asked : Asked) (name rm request one three : List 
   pub console : sidmIn request ≡ asked .console
   pub takes-one : TakesOne y one
   pub random : rmIn one ≡ rm
-  pub who : whoIn one ≡ roleName (roleOf (asked .level) (asked .lookup)) name
+  pub who : whoIn one ≡ whoAsked asked name
   pub takes-three : TakesThree y request one three
 
 -- a record that is open with the system's id, algorithms and keys, so K1 and the AES key

@@ -7,4 +7,5 @@ pub mod Promise
 pub mod Invariant
 pub mod System
 pub mod Named
+pub mod Rights
 pub mod Exchange

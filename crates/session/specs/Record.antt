@@ -1,4 +1,4 @@
--- The step record (docs/RULES.md, 7.6 and 7.9): in which step it is, what a closed one holds, and the records that the steps make.
+-- The step record (docs/RULES.md, 7.6, 7.9 and 7.15): in which step it is, what a closed one holds, and the records that the steps make.
 use Prim.Native.Nat.{ℕ}
 use mathlib.Core.Bool.{Bool, true, false, _&&_}
 use mathlib.Core.List.{List}
@@ -10,7 +10,7 @@ use Rattle.keys.specs.Keys.{keysOf}
 use Rattle.keys.specs.declared.keys.Keys.{Keys}
 use Rattle.messages.specs.OpenSession.{Response}
 use Rattle.messages.specs.declared.«rakp_1».Username.{Username}
-use Rattle.session.specs.Role.{roleOf}
+use Rattle.session.specs.Role.{roleAsked}
 use Rattle.session.specs.declared.Asked.{Asked}
 use Rattle.session.specs.declared.Begun.{Begun}
 use Rattle.session.specs.declared.Agreed.{Agreed}
@@ -55,7 +55,7 @@ closed =
 
 -- what Begin fixes: the console's own id, the role and the name
 unfoldable pub begunOf : Asked → Username → Begun
-begunOf asked username = record { console = asked .console; role = roleOf (asked .level) (asked .lookup); username = username }
+begunOf asked username = record { console = asked .console; role = roleAsked asked; username = username }
 
 -- after Begin: what it fixed
 unfoldable pub begunWith : Begun → Record

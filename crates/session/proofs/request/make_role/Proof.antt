@@ -1,8 +1,7 @@
 -- `make_role` keeps its promise: a level of at most 5, and bit 4 beside it.
-use Rattle.session.specs.Role.{roleOf, levelOf, lookupBit}
+use Rattle.session.specs.Role.{lookupBit, roleOf}
 use native.Mathlib.Omega.{arith}
-use mathlib.Core.Path.{sym, _∙_, ap, ap₂}
-use Prim.Native.Nat.{_+_}
+use mathlib.Core.Path.{ap}
 use Rattle.session.proofs.Role.{level-small}
 use borrow.Author.Needs.{needs}
 use Rattle.session.proofs.request.make_role.Statement.{statement}
@@ -18,7 +17,6 @@ add-result c =
 returns : tie.Need-returns
 unfolding roleOf
 returns c =
-    let a = c .before .before .before .args in
     let l = c .before .before .choose-level .ensures in
     let k = ap lookupBit (c .enum-told .given .1) in
     omega arith
@@ -26,7 +24,6 @@ returns c =
 returns-2 : tie.Need-returns-2
 unfolding roleOf
 returns-2 c =
-    let a = c .before .before .before .args in
     let l = c .before .before .choose-level .ensures in
     let k = ap lookupBit (c .enum-told2 .given .1) in
     omega arith

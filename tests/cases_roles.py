@@ -68,7 +68,7 @@ def role_scripts(d):
 
 
 def role_lines(d):
-    """Lookups that are none, and lines with a field too many; each before a line that is a case."""
+    """Calls with a field too many, then lookups that are none, each before a line that is a case."""
     e = good(d, level=2, name=b"view")
     c = calls(e)
     yield script(c["begin"], "%s 0" % c["open"])

@@ -12,9 +12,9 @@ use Rattle.session.specs.Promise.{recordAfter}
 use Rattle.session.specs.declared.Asked.{Asked}
 use Rattle.session.specs.declared.Record.{Record}
 
--- the name has at most sixteen bytes, each ASCII and not zero, and zeros stand past it; once a step is waited for, the console's id is not
--- zero and the role is a level of 1 to 5, with bit 4 or without; once its response was taken, the system's id is not zero either; and where no
--- step is waited for, all is zero
+-- the name has at most sixteen bytes, each ASCII and not zero, and zeros stand past it; where a step is waited for or the record is open, the
+-- console's id is not zero and the role is a level of 1 to 5, with bit 4 or without; once its response was taken, the system's id is not zero
+-- either; and a closed record is all zeros
 pub record Sound (s : Record) : Type 0 where
   pub len : s .begun .username .len ≤ 16
   pub legal : allowed (nameOf (s .begun .username)) ≡ true

@@ -13,7 +13,7 @@ use Rattle.session.specs.declared.Asked.{Asked}
 use Rattle.session.specs.declared.Record.{Record}
 
 -- the code in message 2, the code in message 3 and the keys of the record after it are all over N as Begin was given it: `two` is message 2,
--- with RC at 8, the GUID at 24 and its code from 40 on, `three` is message 3, with its code from 8 on
+-- with RC at 8, the GUID at 24 and its code from 40 on, `three` is message 3, with its code from 8 on; RM and the system's id are the record's
 pub record Covers (asked : Asked) (name : List ℕ) (s : Record) (kg password two three : List ℕ) (after : Record) : Type 0 where
   pub code-2 : drop 40 two
       ≡ code2 hmacSha1 password (asked .console) (s .system) (s .rm) (part two 8 16) (part two 24 16) (whoAsked asked name)

@@ -1,0 +1,20 @@
+-- `same` keeps its promise: after i turns the sum of differences is zero exactly where the first i bytes are equal.
+use mathlib.Core.Path.{ap₂}
+use lib.Seq.{take_all}
+use mathlib.Core.Path.{◌≡◌, refl, sym, ◌∙◌}
+use Prim.Native.Nat.{◌≤◌, ◌-◌}
+use native.Mathlib.Omega.{arith}
+use lib.Dec.{eqb}
+use lib.ListN.{length, take}
+use Rattle.octets.specs.Equal.{same}
+use Rattle.octets.proofs.Equal.{same_turn, same_lengths}
+use borrow.Author.Rules.{rules}
+use Rattle.octets.proofs.same.Goals as goal
+
+pub returns-then-a-b : goal.returns-then-a-b
+returns-then-a-b c = let a = c.args in sym (same_lengths a.a.now a.b.now c.if-a-b.true)
+
+pub loop-i-preserved : goal.loop-i-preserved
+loop-i-preserved c =
+    let l = c.loop-i in
+    (omega arith, omega arith, same_turn _ _ l.d l.i (omega arith) l.invariant.1 l.invariant.2)

@@ -11,7 +11,7 @@ ghost use Rattle.aes.specs.Turn.{next_key};
 use sbox::{inv_sub_bytes, sub_bytes, xtime};
 
 // The eleven round keys, one after the other.
-#[derive(Drop)]
+#[derive(Clone, Copy)]
 pub struct Aes128 {
     pub keys: [u8; 176],
 }

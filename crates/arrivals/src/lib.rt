@@ -9,14 +9,14 @@ ghost use Rattle.arrivals.specs.Promise.{TakePromise};
 use refusal::{Outcome, Refusal};
 
 // The highest number taken, and a mark for it and for each of the 31 below it: bit k of `seen` says that `highest - k` was taken.
-#[derive(Drop)]
+#[derive(Clone, Copy)]
 pub struct Arrivals {
     pub highest: u32,
     pub seen: u32,
 }
 
 // What became of a number, and the record after it.
-#[derive(Drop)]
+#[derive(Clone, Copy)]
 pub struct Taken {
     pub outcome: Outcome,
     pub arrivals: Arrivals,

@@ -5,7 +5,7 @@ ghost use Rattle.cases.specs.Input.{GatherPromise, line_of};
 use crate::split::pick_part;
 use text::Cursor;
 
-#[derive(Drop)]
+#[derive(Clone, Copy)]
 pub struct Input {
     // What is left of the piece that was read last.
     pub from: usize,

@@ -11,7 +11,7 @@ use text::{Number, Unhexed, Word};
 const MOST_ROOM: u32 = 70000;
 
 // Where the bytes of a field stand in a buffer that holds those of several; bad ones are none.
-#[derive(Drop)]
+#[derive(Clone, Copy)]
 pub struct Span {
     pub bad: bool,
     pub from: usize,
@@ -56,7 +56,7 @@ pub fn read_bytes(line: &[u8], k: usize, out: &mut [u8], at: usize) -> Span
 }
 
 // Sixteen bytes that a field says; zeros where it is bad.
-#[derive(Drop)]
+#[derive(Clone, Copy)]
 pub struct Block {
     pub bad: bool,
     pub bytes: [u8; 16],
@@ -81,7 +81,7 @@ pub fn read_block(line: &[u8], k: usize) -> Block
 }
 
 // Twenty bytes that a field says; zeros where it is bad.
-#[derive(Drop)]
+#[derive(Clone, Copy)]
 pub struct Sik {
     pub bad: bool,
     pub bytes: [u8; 20],
@@ -105,7 +105,7 @@ pub fn read_sik(line: &[u8], k: usize) -> Sik
     }
 }
 
-#[derive(Drop)]
+#[derive(Clone, Copy)]
 pub struct Count {
     pub bad: bool,
     pub n: u32,

@@ -11,7 +11,7 @@ use libc::STDOUT_FILENO;
 
 // What the turns found: the lengths of all packets or payloads, and the last byte of each, added up; where packets are read once, with
 // the two numbers of each record. Every turn is in it, so that the compiler can leave none out.
-#[derive(Drop)]
+#[derive(Clone, Copy)]
 struct Found {
     lengths: usize,
     ends: usize,

@@ -142,7 +142,7 @@ fn read_back(datagram: &mut [u8]) {
 }
 
 // An open session and the record of what arrived in it, which the console holds together.
-#[derive(Drop)]
+#[derive(Clone, Copy)]
 struct Held {
     session: SubState,
     arrivals: Arrivals,

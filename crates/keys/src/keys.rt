@@ -2,7 +2,7 @@
 ghost use Rattle.std.specs.Prelude.{◌≡◌};
 ghost use Rattle.keys.specs.Keys.{keys_of, aes_key_of};
 
-#[derive(Drop)]
+#[derive(Clone, Copy)]
 pub struct Keys {
     pub sik: [u8; 20],
     pub k1: [u8; 20],

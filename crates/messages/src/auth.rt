@@ -2,7 +2,7 @@
 ghost use Rattle.std.specs.Prelude.{◌≡◌};
 ghost use Rattle.messages.specs.Auth.{authentication_code, integrity_code, confidentiality_code, is_level};
 
-#[derive(Drop)]
+#[derive(Clone, Copy)]
 pub enum AuthenticationAlgorithm {
     RakpNone,
     RakpHmacSha1,
@@ -23,7 +23,7 @@ impl AuthenticationAlgorithm {
     }
 }
 
-#[derive(Drop)]
+#[derive(Clone, Copy)]
 pub enum IntegrityAlgorithm {
     None,
     HmacSha1_96,
@@ -46,7 +46,7 @@ impl IntegrityAlgorithm {
     }
 }
 
-#[derive(Drop)]
+#[derive(Clone, Copy)]
 pub enum ConfidentialityAlgorithm {
     None,
     AesCbc128,

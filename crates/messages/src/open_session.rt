@@ -22,14 +22,14 @@ const RESPONSE_LEN: usize = 36;
 const NAMES: [u8; 8] = [0x03, 0x04, 0x05, 0x06, 0x07, 0x09, 0x10, 0x11];
 
 // What an algorithm block says.
-#[derive(Drop)]
+#[derive(Clone, Copy)]
 pub enum AlgorithmPayload {
     Authentication(AuthenticationAlgorithm),
     Integrity(IntegrityAlgorithm),
     Confidentiality(ConfidentialityAlgorithm),
 }
 
-#[derive(Drop)]
+#[derive(Clone, Copy)]
 pub enum BlockAnswer {
     Block(AlgorithmPayload),
     Refused(Refusal),
@@ -119,7 +119,7 @@ impl AlgorithmPayload {
 }
 
 // The highest level that is asked for; none is written as 0.
-#[derive(Drop)]
+#[derive(Clone, Copy)]
 pub enum RequestedPrivilege {
     None,
     Level(u8),
@@ -135,7 +135,7 @@ fn encode_level(level: RequestedPrivilege) -> u8
     }
 }
 
-#[derive(Drop)]
+#[derive(Clone, Copy)]
 pub struct OpenSessionRequest {
     pub tag: u8,
     pub level: RequestedPrivilege,
@@ -178,7 +178,7 @@ impl OpenSessionRequest {
     }
 }
 
-#[derive(Drop)]
+#[derive(Clone, Copy)]
 pub struct OpenSessionResponse {
     pub tag: u8,
     pub level: u8,
@@ -189,25 +189,25 @@ pub struct OpenSessionResponse {
     pub confidentiality: ConfidentialityAlgorithm,
 }
 
-#[derive(Drop)]
+#[derive(Clone, Copy)]
 pub enum OpenSessionAnswer {
     Response(OpenSessionResponse),
     Refused(Refusal),
 }
 
-#[derive(Drop)]
+#[derive(Clone, Copy)]
 enum AuthenticationAnswer {
     Found(AuthenticationAlgorithm),
     Refused(Refusal),
 }
 
-#[derive(Drop)]
+#[derive(Clone, Copy)]
 enum IntegrityAnswer {
     Found(IntegrityAlgorithm),
     Refused(Refusal),
 }
 
-#[derive(Drop)]
+#[derive(Clone, Copy)]
 enum ConfidentialityAnswer {
     Found(ConfidentialityAlgorithm),
     Refused(Refusal),

@@ -9,14 +9,14 @@ ghost use Rattle.refusal.specs.Outcome.{told};
 use refusal::{Outcome, Refusal};
 
 // A writer's answer: how many bytes it wrote, or why none.
-#[derive(Drop)]
+#[derive(Clone, Copy)]
 pub enum Written {
     Bytes(usize),
     Refused(Refusal),
 }
 
 // A part of the message that was lent: where it starts and how many bytes it has.
-#[derive(Drop)]
+#[derive(Clone, Copy)]
 pub struct Place {
     pub at: usize,
     pub len: usize,

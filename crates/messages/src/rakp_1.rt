@@ -20,13 +20,13 @@ const NAME_AT: usize = 28;
 const LONGEST_NAME: usize = 16;
 
 // A name: its first `len` bytes, or all sixteen where `len` is more.
-#[derive(Drop)]
+#[derive(Clone, Copy)]
 pub struct Username {
     pub bytes: [u8; 16],
     pub len: usize,
 }
 
-#[derive(Drop)]
+#[derive(Clone, Copy)]
 pub struct UsernameAnswer {
     pub answer: Outcome,
     pub username: Username,
@@ -95,7 +95,7 @@ fn count_name(u: Username) -> usize
     u.len
 }
 
-#[derive(Drop)]
+#[derive(Clone, Copy)]
 pub struct RakpMessage1 {
     pub tag: u8,
     pub system: u32,

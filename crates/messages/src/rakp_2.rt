@@ -12,7 +12,7 @@ const CODE_AT: usize = 40;
 
 const NAMES: [u8; 6] = [0x08, 0x09, 0x0a, 0x0b, 0x0c, 0x0d];
 
-#[derive(Drop)]
+#[derive(Clone, Copy)]
 pub struct RakpMessage2 {
     pub tag: u8,
     pub console: u32,
@@ -22,7 +22,7 @@ pub struct RakpMessage2 {
 }
 
 // The message, all zeros where the answer is a refusal.
-#[derive(Drop)]
+#[derive(Clone, Copy)]
 pub struct RakpAnswer2 {
     pub answer: Outcome,
     pub message: RakpMessage2,

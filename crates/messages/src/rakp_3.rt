@@ -9,7 +9,7 @@ use refusal::Refusal;
 // The status that declines: invalid integrity check value.
 const DECLINED: u8 = 0x0f;
 
-#[derive(Drop)]
+#[derive(Clone, Copy)]
 pub struct RakpMessage3 {
     pub tag: u8,
     pub system: u32,

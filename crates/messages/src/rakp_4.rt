@@ -12,14 +12,14 @@ const VALUE_AT: usize = 8;
 
 const NAMES: [u8; 2] = [0x08, 0x0f];
 
-#[derive(Drop)]
+#[derive(Clone, Copy)]
 pub struct RakpMessage4 {
     pub tag: u8,
     pub id: u32,
     pub value: Place,
 }
 
-#[derive(Drop)]
+#[derive(Clone, Copy)]
 pub enum RakpAnswer4 {
     Message(RakpMessage4),
     Refused(Refusal),

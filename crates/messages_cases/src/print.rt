@@ -6,7 +6,7 @@ use crate::{readers, writers};
 pub const OUT: i32 = 1;
 
 // The number of a refusal, 0 for accepted, and a value that goes with the answer.
-#[derive(Drop)]
+#[derive(Clone, Copy)]
 pub struct Told {
     pub number: u64,
     pub value: u64,

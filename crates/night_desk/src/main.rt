@@ -10,7 +10,7 @@ use libc::STDOUT_FILENO;
 use refusal::Refusal;
 
 // An open session, and beside it the record of what arrived in it.
-#[derive(Drop)]
+#[derive(Clone, Copy)]
 struct Held {
     session: SubState,
     arrivals: Arrivals,
@@ -68,7 +68,7 @@ fn print_refused(why: Refusal, found: &[u8], left: &[u8]) {
 }
 
 // A datagram of the machine: the first `len` of the bytes, none where it was not written.
-#[derive(Drop)]
+#[derive(Clone, Copy)]
 struct Datagram {
     number: u32,
     bytes: [u8; 128],

@@ -12,7 +12,7 @@ use frame::{Read, Reading, SubState};
 use refusal::Outcome;
 
 // What was read, and the record of arrivals after it.
-#[derive(Drop)]
+#[derive(Clone, Copy)]
 pub struct ReadOnce {
     pub read: Read,
     pub arrivals: Arrivals,

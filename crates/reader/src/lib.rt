@@ -19,7 +19,7 @@ use suite::{Code, PayloadType, Stage, SubState};
 mod body;
 
 // What reading a packet finds: type, ids and the payload's length, or a refusal.
-#[derive(Drop)]
+#[derive(Clone, Copy)]
 pub enum Reading {
     Accepted {
         ty: PayloadType,
@@ -31,14 +31,14 @@ pub enum Reading {
 }
 
 // The answer, and how many blocks were compressed for the integrity code.
-#[derive(Drop)]
+#[derive(Clone, Copy)]
 pub struct Read {
     pub answer: Reading,
     pub blocks: u32,
 }
 
 // What the head tells: the type, or the refusal that ends the reading.
-#[derive(Drop)]
+#[derive(Clone, Copy)]
 enum Headed {
     Type(PayloadType),
     Stop(Refusal),

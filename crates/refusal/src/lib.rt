@@ -5,7 +5,7 @@ ghost use Rattle.std.specs.Prelude.{◌≡◌};
 ghost use Rattle.refusal.specs.Table.{number_of, carries_of, value_of};
 
 // A case for each number of the table (docs/RULES.md, section 1); what is in brackets is carried to the caller.
-#[derive(Drop)]
+#[derive(Clone, Copy)]
 pub enum Refusal {
     NotEnoughData,
     NotIpmiV2_0,
@@ -49,7 +49,7 @@ pub enum Refusal {
 }
 
 // Whether a call did what it was asked to, and if not, why.
-#[derive(Drop)]
+#[derive(Clone, Copy)]
 pub enum Outcome {
     Done,
     Refused(Refusal),

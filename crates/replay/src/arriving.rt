@@ -30,7 +30,7 @@ fn say_outcome(out: &mut [u8], c: Cursor, o: Outcome) -> Cursor {
 }
 
 // The record before a call, as the line gives it.
-#[derive(Drop)]
+#[derive(Clone, Copy)]
 struct Before {
     bad: bool,
     arrivals: Arrivals,
@@ -64,7 +64,7 @@ pub fn tell_arrive(line: &[u8], out: &mut [u8], c: Cursor) -> Cursor {
 }
 
 // Where a row of numbers stands: the record, and the answers.
-#[derive(Drop)]
+#[derive(Clone, Copy)]
 struct Row {
     arrivals: Arrivals,
     told: Cursor,
@@ -129,7 +129,7 @@ fn read_packet(s: SubState, a: Arrivals, outer: bool, packet: &mut [u8]) -> Read
 }
 
 // What was read once, and the record after it.
-#[derive(Drop)]
+#[derive(Clone, Copy)]
 struct Once {
     bad: bool,
     packet: Packet,

@@ -6,13 +6,13 @@ use refusal::Outcome;
 use session::{Asked, Lookup, Record, Stepped};
 
 // What a call leaves. One with a bad field is made all the same, with what it has: nothing is told of its line.
-#[derive(Drop)]
+#[derive(Clone, Copy)]
 pub struct Called {
     pub bad: bool,
     pub step: Stepped,
 }
 
-#[derive(Drop)]
+#[derive(Clone, Copy)]
 pub enum Call {
     Begin,
     Open,
@@ -22,7 +22,7 @@ pub enum Call {
 }
 
 // A call, and which fields of the line it takes, in the order of its arguments.
-#[derive(Drop)]
+#[derive(Clone, Copy)]
 pub struct Plan {
     pub call: Call,
     pub a: usize,
@@ -87,7 +87,7 @@ fn call_open(
 }
 
 // What Message 2 is taken with.
-#[derive(Drop)]
+#[derive(Clone, Copy)]
 struct Texts {
     bad: bool,
     kg: Span,

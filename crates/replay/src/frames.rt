@@ -24,7 +24,7 @@ fn name_integrity(n: u32) -> Integrity {
 }
 
 // What CONF, INTEG and SIK give, the first three fields.
-#[derive(Drop)]
+#[derive(Clone, Copy)]
 pub struct Given {
     pub bad: bool,
     pub encrypts: bool,
@@ -117,7 +117,7 @@ fn read_packet(s: SubState, outer: bool, packet: &mut [u8]) -> Read {
 }
 
 // A packet that stands in the buffer twice, so that what a call changed shows: the one lent ends at `len`, the other at `end`.
-#[derive(Drop)]
+#[derive(Clone, Copy)]
 pub struct Twice {
     pub bad: bool,
     pub len: usize,
@@ -136,7 +136,7 @@ pub fn put_twice(line: &[u8], k: usize, buf: &mut [u8]) -> Twice {
 }
 
 // What was read: the packet begins at `start` of what the call left.
-#[derive(Drop)]
+#[derive(Clone, Copy)]
 pub struct Packet {
     pub bad: bool,
     encrypts: bool,
@@ -181,7 +181,7 @@ pub fn tell_read(line: &[u8], outer: bool, buf: &mut [u8], out: &mut [u8], c: Cu
     tell_packet(r, buf, out, c)
 }
 
-#[derive(Drop)]
+#[derive(Clone, Copy)]
 struct Kind {
     bad: bool,
     ty: PayloadType,
@@ -208,7 +208,7 @@ fn read_type(line: &[u8], k: usize) -> Kind {
 }
 
 // What is to be written, but for session, room and payload.
-#[derive(Drop)]
+#[derive(Clone, Copy)]
 struct Order {
     bad: bool,
     iv: [u8; 16],

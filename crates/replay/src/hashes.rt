@@ -24,7 +24,7 @@ fn say_hashed(out: &mut [u8], c: Cursor, h: Hashed) -> Cursor {
 }
 
 // What a line gives to tell, unless it is bad.
-#[derive(Drop)]
+#[derive(Clone, Copy)]
 struct Sum {
     bad: bool,
     hashed: Hashed,
@@ -53,7 +53,7 @@ fn code_data(line: &[u8], buf: &mut [u8]) -> Sum {
 }
 
 // What has been read and fed of `pieces`.
-#[derive(Drop)]
+#[derive(Clone, Copy)]
 struct Pieces {
     hash: Sha1,
     answer: Outcome,
@@ -188,7 +188,7 @@ fn sum_zeros(line: &[u8], coded: bool) -> Sum {
     Sum { bad, hashed }
 }
 
-#[derive(Drop)]
+#[derive(Clone, Copy)]
 pub enum Summing {
     Sha1,
     Pieces,

@@ -17,7 +17,7 @@ pub fn lend_room(room: &mut [u8], n: usize) -> &mut [u8] {
 }
 
 // What a writer answered to the fields of a line, and how many bytes it wrote.
-#[derive(Drop)]
+#[derive(Clone, Copy)]
 pub struct Draft {
     pub bad: bool,
     pub answer: Outcome,

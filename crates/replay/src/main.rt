@@ -22,7 +22,7 @@ mod writers;
 use cases::{Input, pick_part};
 use text::Cursor;
 
-#[derive(Drop)]
+#[derive(Clone, Copy)]
 struct State {
     input: Input,
     // How much of the output waits.

@@ -9,7 +9,7 @@ use messages::rakp_4::{RakpAnswer4, RakpMessage4};
 use refusal::Outcome;
 use text::Cursor;
 
-#[derive(Drop)]
+#[derive(Clone, Copy)]
 pub enum Received {
     Block,
     Opened,
@@ -41,7 +41,7 @@ fn tell_block(b: &[u8], out: &mut [u8], c: Cursor) -> Cursor {
 }
 
 // The codes of the three algorithms.
-#[derive(Drop)]
+#[derive(Clone, Copy)]
 struct Codes {
     a: u8,
     i: u8,

@@ -53,7 +53,7 @@ fn name_confidentiality(n: u32) -> ConfidentialityAlgorithm {
 }
 
 // The algorithms that A, I and C name.
-#[derive(Drop)]
+#[derive(Clone, Copy)]
 struct Offer {
     bad: bool,
     authentication: AuthenticationAlgorithm,
@@ -96,7 +96,7 @@ pub fn write_request(line: &[u8], room: &mut [u8]) -> Draft {
 }
 
 // A message 1, but for its name.
-#[derive(Drop)]
+#[derive(Clone, Copy)]
 struct First {
     bad: bool,
     tag: u8,
@@ -152,7 +152,7 @@ pub fn write_message1(line: &[u8], buf: &mut [u8], room: &mut [u8]) -> Draft {
 }
 
 // A message 3, but for its code.
-#[derive(Drop)]
+#[derive(Clone, Copy)]
 struct Third {
     bad: bool,
     message: RakpMessage3,

@@ -3,7 +3,7 @@ use messages::open_session::RequestedPrivilege;
 use session::Lookup;
 
 // A byte that a field says; 0 where it is bad.
-#[derive(Drop)]
+#[derive(Clone, Copy)]
 pub struct Byte {
     pub bad: bool,
     pub byte: u8,
@@ -18,7 +18,7 @@ pub fn read_byte(line: &[u8], k: usize) -> Byte {
     }
 }
 
-#[derive(Drop)]
+#[derive(Clone, Copy)]
 pub struct Level {
     pub bad: bool,
     pub level: RequestedPrivilege,
@@ -40,7 +40,7 @@ pub fn read_level(line: &[u8], k: usize) -> Level {
 }
 
 // How a user is looked up.
-#[derive(Drop)]
+#[derive(Clone, Copy)]
 pub struct Sought {
     pub bad: bool,
     pub lookup: Lookup,

@@ -8,7 +8,7 @@ use session::{Record, Stepped};
 use text::Cursor;
 
 // Where a script stands: the record, and the answers.
-#[derive(Drop)]
+#[derive(Clone, Copy)]
 struct Script {
     state: Record,
     told: Cursor,
@@ -16,7 +16,7 @@ struct Script {
 }
 
 // A call of a script: which fields it takes, how many it has and may have, and which of them is its room (0 for none).
-#[derive(Drop)]
+#[derive(Clone, Copy)]
 struct Form {
     plan: Plan,
     fields: usize,
@@ -81,7 +81,7 @@ fn size_room(call: &[u8], k: usize) -> Count {
 }
 
 // What a call left, in how much room.
-#[derive(Drop)]
+#[derive(Clone, Copy)]
 struct Ran {
     bad: bool,
     step: Stepped,
@@ -89,7 +89,7 @@ struct Ran {
 }
 
 // The form of a call, and how much room it is lent.
-#[derive(Drop)]
+#[derive(Clone, Copy)]
 struct Asked {
     bad: bool,
     plan: Plan,

@@ -64,7 +64,7 @@ fn say_step(out: &mut [u8], s: Stage, step: usize, d: Stepped, room: &[u8]) -> C
 }
 
 // Where the steps stand: over once one was refused. Those after it only show whether the line is bad.
-#[derive(Drop)]
+#[derive(Clone, Copy)]
 struct Stage {
     state: Record,
     told: Cursor,

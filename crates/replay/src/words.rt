@@ -6,7 +6,7 @@ use crate::{arriving, ciphers, frames, hashes, message_readers, script, steps, w
 use text::Cursor;
 
 // The cases, by what their answers need; what is in one tells the words of one shape apart.
-#[derive(Drop)]
+#[derive(Clone, Copy)]
 enum Case {
     Short(Short),
     Read(bool),
@@ -18,7 +18,7 @@ enum Case {
 }
 
 // The cases that are one call of the hash, the cipher, or the reader of a block or a message, or that take numbers of packets.
-#[derive(Drop)]
+#[derive(Clone, Copy)]
 enum Short {
     Hash(Summing),
     Block(bool),

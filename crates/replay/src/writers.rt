@@ -6,7 +6,7 @@ use refusal::Outcome;
 use text::Cursor;
 
 // What is written; a packet, or a datagram.
-#[derive(Drop)]
+#[derive(Clone, Copy)]
 pub enum Writer {
     Packet(bool),
     OpenRequest,
@@ -37,7 +37,7 @@ fn write_into(line: &[u8], which: Writer, buf: &mut [u8], room: &mut [u8]) -> Dr
 }
 
 // What was written, in how much room.
-#[derive(Drop)]
+#[derive(Clone, Copy)]
 struct Output {
     bad: bool,
     answer: Outcome,

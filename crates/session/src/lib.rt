@@ -27,7 +27,7 @@ pub(crate) const TAG_1: u8 = 0x0d;
 pub(crate) const TAG_3: u8 = 0x0a;
 
 // Where an exchange stands: what it waits for next.
-#[derive(Drop)]
+#[derive(Clone, Copy)]
 pub enum Step {
     Closed,
     OpenResponse,
@@ -37,14 +37,14 @@ pub enum Step {
 }
 
 // By what the system finds the user's account: by name and level both, or by name only.
-#[derive(Drop)]
+#[derive(Clone, Copy)]
 pub enum Lookup {
     NameAndLevel,
     NameOnly,
 }
 
 // What Begin is asked for, beside the user's name: the console's own id, the privilege level, and how the user is looked up.
-#[derive(Drop)]
+#[derive(Clone, Copy)]
 pub struct Asked {
     pub console: u32,
     pub level: RequestedPrivilege,
@@ -53,7 +53,7 @@ pub struct Asked {
 
 // What Begin fixed; every later step hands it on as it is. The role is the level and the kind of lookup in one byte: message 1 asks for it,
 // and each code covers it.
-#[derive(Drop)]
+#[derive(Clone, Copy)]
 pub struct Begun {
     pub console: u32,
     pub role: u8,
@@ -61,14 +61,14 @@ pub struct Begun {
 }
 
 // The algorithms that the open response agreed to.
-#[derive(Drop)]
+#[derive(Clone, Copy)]
 pub struct Agreed {
     pub confidentiality: Confidentiality,
     pub integrity: Integrity,
 }
 
 // What an exchange knows. Neither password nor Kg is in it.
-#[derive(Drop)]
+#[derive(Clone, Copy)]
 pub struct Record {
     pub step: Step,
     pub begun: Begun,
@@ -80,7 +80,7 @@ pub struct Record {
 }
 
 // What a step leaves: the record, its outcome, and how many bytes it wrote.
-#[derive(Drop)]
+#[derive(Clone, Copy)]
 pub struct Stepped {
     pub state: Record,
     pub answer: Outcome,

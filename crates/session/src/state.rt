@@ -91,7 +91,7 @@ pub(crate) fn refuse(state: Record, r: Refusal) -> Stepped
 }
 
 // The session that frames are read and written with, and whether there is one.
-#[derive(Drop)]
+#[derive(Clone, Copy)]
 pub struct Established {
     pub answer: Outcome,
     pub session: SubState,

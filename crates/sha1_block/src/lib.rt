@@ -11,7 +11,7 @@ use octets::be4;
 use std::num::wrapping_add_u32;
 
 // The chaining value; in the rounds, the five working variables.
-#[derive(Drop)]
+#[derive(Clone, Copy)]
 pub struct Chain {
     a: u32,
     b: u32,

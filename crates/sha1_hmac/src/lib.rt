@@ -23,7 +23,7 @@ pub use mac::{MacFed, Sha1Hmac, hmac};
 pub const LIMIT: usize = 1048576;
 
 // The blocks compressed so far are counted in `blocks`. The first `len % 64` bytes of `buf` wait; the others are zero.
-#[derive(Drop)]
+#[derive(Clone, Copy)]
 pub struct Sha1 {
     h: Chain,
     buf: [u8; 64],
@@ -32,14 +32,14 @@ pub struct Sha1 {
 }
 
 // What a piece leaves: the next hash, or the hash as it was beside a refusal.
-#[derive(Drop)]
+#[derive(Clone, Copy)]
 pub struct Fed {
     pub answer: Outcome,
     pub hash: Sha1,
     pub blocks: u32,
 }
 
-#[derive(Drop)]
+#[derive(Clone, Copy)]
 pub struct Hashed {
     pub answer: Outcome,
     pub digest: [u8; 20],

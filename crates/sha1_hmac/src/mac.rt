@@ -18,7 +18,7 @@ use std::num::wrapping_add_u32;
 const INNER_LIMIT: usize = LIMIT + 64;
 
 // The inner hash, the outer one after its key block, and the blocks compressed for the key and for that block.
-#[derive(Drop)]
+#[derive(Clone, Copy)]
 pub struct Sha1Hmac {
     inner: Sha1,
     outer: Chain,
@@ -26,7 +26,7 @@ pub struct Sha1Hmac {
 }
 
 // What a key or a piece leaves; `blocks` tells those compressed so far.
-#[derive(Drop)]
+#[derive(Clone, Copy)]
 pub struct MacFed {
     pub answer: Outcome,
     pub mac: Sha1Hmac,
@@ -34,7 +34,7 @@ pub struct MacFed {
 }
 
 // A key as one block, and the blocks compressed to make it.
-#[derive(Drop)]
+#[derive(Clone, Copy)]
 struct KeyBlock {
     block: [u8; 64],
     blocks: u32,

@@ -13,7 +13,7 @@ use keys::Keys;
 use refusal::Refusal;
 
 // The eight payload types; `typeNumber` gives the number of each.
-#[derive(Drop)]
+#[derive(Clone, Copy)]
 pub enum PayloadType {
     IpmiMessage,
     Sol,
@@ -44,20 +44,20 @@ impl PayloadType {
 }
 
 // The algorithms that a session can use.
-#[derive(Drop)]
+#[derive(Clone, Copy)]
 pub enum Confidentiality {
     None,
     AesCbc128,
 }
 
-#[derive(Drop)]
+#[derive(Clone, Copy)]
 pub enum Integrity {
     None,
     HmacSha1_96,
 }
 
 // A session as packets see it.
-#[derive(Drop)]
+#[derive(Clone, Copy)]
 pub struct SubState {
     pub keys: Keys,
     pub confidentiality: Confidentiality,
@@ -68,7 +68,7 @@ pub struct SubState {
 pub const OUTER: [u8; 4] = *b"\x06\x00\xff\x07";
 
 // What a stage hands to the next: a number of bytes, or the refusal that ends it.
-#[derive(Drop)]
+#[derive(Clone, Copy)]
 pub enum Stage {
     Go(usize),
     Stop(Refusal),
@@ -123,7 +123,7 @@ pub fn find_longest_packet(s: SubState) -> usize
 pub const DIGEST_LEN: usize = 20;
 
 // A code as the hash computed it, of which packets carry the first bytes, and how many blocks it compressed.
-#[derive(Drop)]
+#[derive(Clone, Copy)]
 pub struct Code {
     pub code: [u8; DIGEST_LEN],
     pub blocks: u32,

@@ -7,7 +7,7 @@ use crate::write::{Cursor, add, decimal, hex8};
 use refusal::Refusal;
 
 // What is told of a packet: its numbers, or a refusal.
-#[derive(Drop)]
+#[derive(Clone, Copy)]
 pub enum Telling {
     Packet {
         kind: u8,

@@ -4,19 +4,19 @@ ghost use Rattle.octets.specs.Place.{pasted};
 ghost use Rattle.text.specs.Digits.{worth, digits, pairs};
 ghost use Rattle.text.specs.Promise.{number_in, word_in, UnhexPromise};
 
-#[derive(Drop)]
+#[derive(Clone, Copy)]
 pub enum Number {
     Value(u64),
     Bad,
 }
 
-#[derive(Drop)]
+#[derive(Clone, Copy)]
 pub enum Word {
     Value(u32),
     Bad,
 }
 
-#[derive(Drop)]
+#[derive(Clone, Copy)]
 pub enum Unhexed {
     // How many bytes there are.
     Bytes(usize),

@@ -6,7 +6,7 @@ ghost use Rattle.text.specs.Promise.{takes, AddPromise};
 
 // Where the next byte goes. Once something did not fit the buffer is full: nothing more is written, so that a writer looks
 // at `full` once, at the end.
-#[derive(Drop)]
+#[derive(Clone, Copy)]
 pub struct Cursor {
     pub at: usize,
     pub full: bool,

@@ -17,7 +17,7 @@ use refusal::Refusal;
 use suite::{Confidentiality, PayloadType, Stage, SubState};
 
 // What writing answers: the length of what was written, or a refusal.
-#[derive(Drop)]
+#[derive(Clone, Copy)]
 pub enum Written {
     Length(usize),
     Refused(Refusal),

@@ -1,0 +1,8 @@
+-- `inv_sub_byte` keeps its promise: the entry that is looked up follows the rule.
+use mathlib.Core.Path.{◌∙◌}
+use Rattle.sbox.proofs.Table.{unsbox_rule}
+use borrow.Author.Rules.{rules}
+use Rattle.sbox.proofs.inv_sub_byte.Goals as goal
+
+pub returns : goal.returns
+returns c = c.look_up.ensures ∙ unsbox_rule c.args.x (search rules)

@@ -1,0 +1,21 @@
+-- `make_schedule` keeps its promise. Invariant: the first t words are the schedule's first t words.
+use Rattle.std.proofs.Common.{◌≡◌, ◌-◌, ◌≤◌, length, take, sym, ◌∙◌, arith, take_all, rules}
+use Rattle.sha1_block.specs.Block.{words, more, schedule}
+use Rattle.sha1_block.proofs.Laws.{more-more}
+use Rattle.sha1_block.proofs.make_schedule.Goals as goal
+
+pub loop-t-init : goal.loop-t-init
+unfolding more
+loop-t-init c = search rules
+
+pub loop-t-preserved : goal.loop-t-preserved
+loop-t-preserved c =
+    let l = c.loop-t in
+    (search rules, search rules, search rules, more-more l.w _ l.t _ (omega arith) (omega arith) l.invariant.3 c.mix_word.ensures)
+
+pub returns : goal.returns
+unfolding schedule
+returns c =
+    let l = c.loop-t in
+    let e : l.t ≡ 80 = omega arith in
+    sym (take_all 80 l.w (omega arith)) ∙ (rw e at l.invariant.3)

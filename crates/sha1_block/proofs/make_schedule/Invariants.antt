@@ -1,0 +1,11 @@
+-- `make_schedule` keeps its promise. Invariant: the first t words are the schedule's first t words.
+use Rattle.std.proofs.Common.{◌≡◌, ◌-◌, ◌≤◌, length, take, sym, ◌∙◌, arith, take_all, rules}
+use Rattle.sha1_block.specs.Block.{words, more, schedule}
+use Rattle.sha1_block.proofs.Laws.{more-more}
+use Rattle.sha1_block.proofs.make_schedule.Given as goal
+
+abbrev pub invariant-loop-t : goal.invariant-loop-t
+invariant-loop-t l = (16 ≤ l.t) × (l.t ≤ 80) × (length l.w ≡ 80) × (take l.t l.w ≡ more (l.t - 16) (words 16 l.m))
+
+abbrev pub decreases-loop-t : goal.decreases-loop-t
+decreases-loop-t l = 80 - l.t

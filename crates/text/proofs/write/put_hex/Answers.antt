@@ -1,0 +1,26 @@
+-- `put_hex` keeps its promise: after i turns the first i bytes stand in hex.
+use Prim.Native.Nat.{ℕ, ◌-◌, ◌≤◌}
+use mathlib.Core.List.{List}
+use mathlib.Core.Path.{◌≡◌, refl, sym, ◌∙◌, ap}
+use native.Mathlib.Omega.{arith}
+use lib.ListN.{length, take, length-set}
+use lib.Seq.{take_all}
+use Rattle.octets.specs.Place.{pasted}
+use Rattle.text.specs.Digits.{hex}
+use Rattle.text.proofs.Writing.{hex-turn}
+use Rattle.octets.proofs.Place.{pasted-none}
+use Rattle.text.proofs.write.put_hex.Goals as goal
+
+pub loop-i-init : goal.loop-i-init
+loop-i-init c = let a = c.args in (omega arith, sym (pasted-none a.out.now a.at), refl)
+
+pub loop-i-preserved : goal.loop-i-preserved
+loop-i-preserved c =
+    let l = c.loop-i in
+    let a = c.args in
+    let spell-digit = c.spell_digit in (
+      omega arith,
+      hex-turn l.out a.out.now a.s.now a.at l.i _ _ l.invariant.1 (omega arith) (omega arith)
+          spell-digit.ensures c.spell_digit-in-loop-i.ensures,
+      simp length-set l.invariant.2,
+    )

@@ -1,0 +1,18 @@
+-- `put_hex` keeps its promise: after i turns the first i bytes stand in hex.
+use Prim.Native.Nat.{ℕ, ◌-◌, ◌≤◌}
+use mathlib.Core.List.{List}
+use mathlib.Core.Path.{◌≡◌, refl, sym, ◌∙◌, ap}
+use native.Mathlib.Omega.{arith}
+use lib.ListN.{length, take, length-set}
+use lib.Seq.{take_all}
+use Rattle.octets.specs.Place.{pasted}
+use Rattle.text.specs.Digits.{hex}
+use Rattle.text.proofs.Writing.{hex-turn}
+use Rattle.octets.proofs.Place.{pasted-none}
+use Rattle.text.proofs.write.put_hex.Given as goal
+
+abbrev pub invariant-loop-i : goal.invariant-loop-i
+invariant-loop-i l = (l.i ≤ length l.s) × (l.out ≡ pasted l.initial.out l.at (hex (take l.i l.s))) × (length l.out ≡ length l.initial.out)
+
+abbrev pub decreases-loop-i : goal.decreases-loop-i
+decreases-loop-i l = length l.s - l.i

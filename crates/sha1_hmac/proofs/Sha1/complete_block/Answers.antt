@@ -1,0 +1,13 @@
+-- `complete_block` keeps its promise: one block becomes full.
+use Rattle.std.proofs.Common.{◌≡◌, length, arith, rules}
+use Rattle.sha1_block.specs.Block.{sha1_hash}
+use Rattle.sha1_hmac.specs.View.{state_of}
+use Rattle.running.proofs.Takes.{complete_block_law}
+use Rattle.sha1_hmac.proofs.Sha1.complete_block.Goals as goal
+
+pub returns : goal.returns
+returns c =
+    let a = c.args in
+    let l : length a.self.buf ≡ 64 = search rules in
+    complete_block_law sha1_hash (state_of a.self) a.s.now _ _ _ _ l (omega arith) c.fill_block-b.ensures
+    c.blocks-2.ensures c.wrapping_add_u32.ensures.value c.wrapping_add_u32-2.ensures.value

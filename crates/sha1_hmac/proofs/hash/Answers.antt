@@ -1,0 +1,12 @@
+-- `hash` keeps its promise: all bytes at once are SHA-1 of them.
+use Rattle.std.proofs.Common.{refl, rules}
+use borrow.Author.Tests.{lt-leb}
+use Rattle.sha1_block.specs.Block.{sha1_hash}
+use Rattle.running.proofs.Promised.{as_no}
+use Rattle.running.proofs.Fed.{hashed_whole}
+use Rattle.sha1_hmac.proofs.hash.Goals as goal
+
+pub returns : goal.returns
+returns c =
+    hashed_whole sha1_hash (λ d. d) c.args.s.now c.if-s-gt-LIMIT.false
+    c.new.ensures c.absorb.ensures c.close.ensures

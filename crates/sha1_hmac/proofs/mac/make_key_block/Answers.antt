@@ -1,0 +1,16 @@
+-- `make_key_block` keeps its promise: a short key stands as it is, a long one is hashed.
+use Rattle.std.proofs.Common.{◌≡◌, length, ap, ◌∙◌, arith, rules}
+use Rattle.sha1_block.specs.Block.{sha1_hash}
+use Rattle.sha1_block.proofs.Laws.{sha1_sized}
+use Rattle.running.proofs.Promised.{yes}
+use Rattle.running.proofs.Macs.{digest_of-length, key_block-short, key_block-long}
+use Rattle.sha1_hmac.proofs.mac.make_key_block.Goals as goal
+
+pub returns-then-key-le64 : goal.returns-then-key-le64
+returns-then-key-le64 c = key_block-short sha1_hash sha1_sized c.args.key.now _ (omega arith) c.fill_block.ensures
+
+pub returns : goal.returns
+returns c =
+    let q = yes c.close-short.ensures in
+    key_block-long sha1_hash sha1_sized c.args.key.now _ _ _ _ _ (omega arith) (omega arith)
+    c.new.ensures c.absorb.ensures q.1 q.2 c.fill_block-2.ensures

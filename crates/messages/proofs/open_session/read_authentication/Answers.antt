@@ -1,0 +1,23 @@
+-- `read_authentication` keeps its promise: a block of another type is refused.
+use mathlib.Core.Path.{refl}
+use Rattle.messages.proofs.Opening.{type-refused, type-right, type_wrong}
+use borrow.Author.Rules.{rules}
+use Rattle.messages.proofs.open_session.read_authentication.Goals as goal
+
+pub returns-in-Refused : goal.returns-in-Refused
+returns-in-Refused c = type-refused 0 _ _ c.from_data.ensures _ c.in-Refused.is
+
+pub returns-in-Authentication : goal.returns-in-Authentication
+returns-in-Authentication c =
+    type-right 0 _ _ c.from_data.ensures _ _
+    c.in-Block.is c.in-Authentication.is refl
+
+pub returns-in-Integrity : goal.returns-in-Integrity
+returns-in-Integrity c =
+    type_wrong 0 _ _ c.from_data.ensures _ _
+    c.in-Block.is c.in-Integrity.is refl
+
+pub returns-in-Confidentiality : goal.returns-in-Confidentiality
+returns-in-Confidentiality c =
+    type_wrong 0 _ _ c.from_data.ensures _ _
+    c.in-Block.is c.in-Confidentiality.is refl

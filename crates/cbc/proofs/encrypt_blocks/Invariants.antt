@@ -1,0 +1,21 @@
+-- `encrypt_blocks` keeps its promise: what is done and the run over the rest are always the whole run.
+use Prim.Native.Nat.{◌≤◌, ◌-◌, ◌*◌, ◌/◌, ℕ}
+use native.Mathlib.Omega.{arith}
+use mathlib.Core.Path.{◌≡◌, sym, ◌∙◌, ap}
+use mathlib.Core.List.{List, ◌++◌}
+use borrow.Author.Rules.{rules}
+use lib.ListN.{take, drop, length}
+use Rattle.octets.proofs.Filled.{filled-part}
+use Rattle.aes.specs.Cipher.{cipher}
+use Rattle.aes.specs.Schedule.{keys_of}
+use Rattle.cbc.proofs.Run.{run, run-start, run-turn, run_end, sealed, sealed-length, encrypt-run}
+use Rattle.cbc.proofs.encrypt_blocks.Given as goal
+
+abbrev pub invariant-loop-i : goal.invariant-loop-i
+invariant-loop-i l =
+    (l.i ≤ l.n) × (16 * l.n ≡ length l.s)
+    × (take (16 * l.i) l.s ++ run (sealed (keys_of l.a)) (sealed (keys_of l.a)) l.v (l.n - l.i) (drop (16 * l.i) l.s)
+    ≡ run (sealed (keys_of l.a)) (sealed (keys_of l.a)) l.initial.v l.n l.initial.s)
+
+abbrev pub decreases-loop-i : goal.decreases-loop-i
+decreases-loop-i l = l.n - l.i

@@ -11,19 +11,14 @@ use Rattle.sha1_hmac.specs.Hash.{hmac_sha1, hmac_blocks}
 use Rattle.sha1_hmac.proofs.Laws.{mac_count-short}
 use Rattle.suite.specs.Code.{longest_code}
 use borrow.Author.Rules.{rules}
-use Rattle.suite.proofs.make_code.Statement.{statement}
-use Rattle.suite.proofs.make_code.Tie as tie
+use Rattle.suite.proofs.make_code.Goals as goal
 
-key-size : (c : tie.Start) → length c.args.s.keys.k1 ≡ 20
-key-size c = search rules
-
-returns : tie.Need-returns
+pub returns : goal.returns
 returns c =
-    let c6 = c.before.before.before.before.before.before in
-    let k1 = c6.args.s.keys.k1 in
-    let l = c6.args.bytes.now in
-    let n : length k1 ≡ 20 = key-size c6 in
-    let p = c.before.hmac.ensures in
+    let k1 = c.args.s.keys.k1 in
+    let l = c.args.bytes.now in
+    let n : length k1 ≡ 20 = search rules in
+    let p = c.hmac-h.ensures in
     let ok : (leb (length k1) limit && leb (length l) limit) ≡ leb (length l) limit =
     ap (λ (b : Bool). b && leb (length l) limit) (le-leb (length k1) limit (omega arith)) in
     record {
@@ -32,6 +27,3 @@ returns c =
           p.blocks ∙ ap (λ (b : Bool). cond b (hmac_blocks k1 l) 0) ok
           ∙ ap (λ (m : ℕ). cond (leb (length l) limit) m 0) (mac_count-short k1 l (omega arith));
     }
-
-pub make-code-spec : {M : Type 1} → statement M
-make-code-spec = tie.close (tie.spec (λ c. search rules) (λ c κs. search rules) returns)

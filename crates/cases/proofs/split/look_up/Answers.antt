@@ -1,0 +1,29 @@
+-- `look_up` keeps its promise: the words before the k-th are others.
+use Prim.Native.Nat.{◌+◌, ◌-◌, ◌<◌, ◌≤◌}
+use mathlib.Core.Path.{◌≡◌, sym, ◌∙◌}
+use native.Mathlib.Omega.{arith}
+use native.Mathlib.Nat.{zero-add}
+use lib.ListN.{length, drop}
+use borrow.Author.Rules.{rules}
+use Rattle.text.specs.Fields.{cut}
+use Rattle.cases.specs.Fields.{field_of, place_of}
+use Rattle.cases.proofs.Walk.{word-here, word-not, word_none, word-found}
+use Rattle.cases.proofs.split.look_up.Goals as goal
+
+pub returns-then-same : goal.returns-then-same
+unfolding field_of
+returns-then-same c =
+    let a = c.args in
+    let l = c.loop-k in
+    let h : l.k < length (cut 0x20 a.words.now) = omega (arith, c.fields-n.ensures) in
+    let e = word-found _ _ _ _ _ c.pick_field.ensures.0 c.same.ensures c.if-same.true in
+    word-here a.s.now (cut 0x20 a.words.now) l.k l.invariant.1 h e
+
+pub loop-k-preserved : goal.loop-k-preserved
+unfolding field_of
+loop-k-preserved c =
+    let a = c.args in
+    let l = c.loop-k in
+    let h : l.k < length (cut 0x20 a.words.now) = omega (arith, c.fields-n.ensures) in
+    let e = word-found _ _ _ _ _ c.pick_field.ensures.0 c.same.ensures c.if-same.false in
+    (omega arith, word-not a.s.now (cut 0x20 a.words.now) l.k l.invariant.1 h e)

@@ -1,0 +1,17 @@
+-- `look_up` keeps its promise: the words before the k-th are others.
+use Prim.Native.Nat.{◌+◌, ◌-◌, ◌<◌, ◌≤◌}
+use mathlib.Core.Path.{◌≡◌, sym, ◌∙◌}
+use native.Mathlib.Omega.{arith}
+use native.Mathlib.Nat.{zero-add}
+use lib.ListN.{length, drop}
+use borrow.Author.Rules.{rules}
+use Rattle.text.specs.Fields.{cut}
+use Rattle.cases.specs.Fields.{field_of, place_of}
+use Rattle.cases.proofs.Walk.{word-here, word-not, word_none, word-found}
+use Rattle.cases.proofs.split.look_up.Given as goal
+
+abbrev pub invariant-loop-k : goal.invariant-loop-k
+invariant-loop-k l = (l.k ≤ l.n) × (place_of l.s (cut 0x20 l.words) ≡ l.k + place_of l.s (drop l.k (cut 0x20 l.words)))
+
+abbrev pub decreases-loop-k : goal.decreases-loop-k
+decreases-loop-k l = l.n - l.k

@@ -1,0 +1,18 @@
+-- `decrypt_tail` keeps its promise: the first i bytes are those of the plain text. The measure is what is left of t.
+use borrow.Author.Rules.{rules}
+use Prim.Native.Nat.{ℕ, ◌+◌, ◌-◌, ◌%◌, ◌≤◌}
+use native.Mathlib.Omega.{arith}
+use mathlib.Core.Path.{◌≡◌, refl, sym, ◌∙◌, ap}
+use lib.ListN.{length, take, drop}
+use Rattle.octets.specs.Place.{part}
+use Rattle.reader.specs.Uncbc.{uncbc}
+use Rattle.aes.specs.Schedule.{keys_of}
+use Rattle.framing.proofs.Blocks.{tail-turn}
+use Rattle.reader.proofs.body.decrypt_tail.Given as goal
+
+abbrev pub invariant-loop-i : goal.invariant-loop-i
+invariant-loop-i l = (l.i ≤ l.t) × (l.i % 16 ≡ 0) × (length l.tail ≡ 256)
+    × (take l.i l.tail ≡ part (uncbc (keys_of l.w) (take 16 l.body) (drop 16 l.body)) (length l.body - 16 - l.t) l.i)
+
+abbrev pub decreases-loop-i : goal.decreases-loop-i
+decreases-loop-i l = l.t - l.i

@@ -1,0 +1,10 @@
+-- `read_checked` keeps its promise: the head decides, or what stands behind it.
+use mathlib.Core.Path.{ap, sym, ◌∙◌}
+use Rattle.reader.specs.Answers.{head_told}
+use Rattle.framing.proofs.Coded.{told-head}
+use Rattle.reader.proofs.Promised.{tells}
+use borrow.Author.Rules.{rules}
+use Rattle.reader.proofs.read_checked.Goals as goal
+
+pub returns-in-Stop : goal.returns-in-Stop
+returns-in-Stop c = tells _ _ _ (told-head _ _ _ _ _ c.check_head-h.ensures (ap head_told c.in-Stop.is))

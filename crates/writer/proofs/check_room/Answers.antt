@@ -1,0 +1,27 @@
+-- `check_room` keeps its promise: a law for each way out.
+use Prim.Native.Nat.{ℕ, ◌+◌}
+use native.Mathlib.Omega.{arith}
+use mathlib.Core.Path.{ap}
+use Rattle.suite.specs.Session.{suite_of}
+use Rattle.suite.proofs.Suites.{code-short}
+use Rattle.framing.proofs.Rooms.{room_13, room_14, room_15, room-done, packet-small}
+use borrow.Author.Rules.{rules}
+use Rattle.writer.proofs.check_room.Goals as goal
+
+pub returns-then-n-gt65535 : goal.returns-then-n-gt65535
+returns-then-n-gt65535 c = room_13 _ _ _ _ (omega arith)
+
+pub returns-then-find_longest_payload-n : goal.returns-then-find_longest_payload-n
+returns-then-find_longest_payload-n c = room_14 _ _ _ _ (omega arith) (omega (arith, c.find_longest_payload.ensures))
+
+pub returns-then-room-size : goal.returns-then-room-size
+returns-then-room-size c =
+    room_15 _ _ _ _ (omega arith) (omega (arith, c.find_longest_payload.ensures)) _
+    (ap (λ (k : ℕ). c.args + k) c.measure_packet.ensures) (omega arith)
+
+pub returns : goal.returns
+returns c =
+    room-done _ _ _ _ (omega arith) (omega (arith, c.find_longest_payload.ensures)) _
+    (ap (λ (k : ℕ). c.args + k) c.measure_packet.ensures) (omega arith)
+
+

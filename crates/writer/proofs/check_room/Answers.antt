@@ -14,14 +14,20 @@ returns-then-n-gt65535 c = room_13 _ _ _ _ (omega arith)
 pub returns-then-find_longest_payload-n : goal.returns-then-find_longest_payload-n
 returns-then-find_longest_payload-n c = room_14 _ _ _ _ (omega arith) (omega (arith, c.find_longest_payload.ensures))
 
+pub overflow_add-size : goal.overflow_add-size
+overflow_add-size c =
+    let a = c.args in
+    record {
+      fits = omega
+          (arith, c.requires, c.measure_packet.ensures, packet-small (suite_of a.s) a.n (omega arith), code-short a.s.integrity);
+    }
+
 pub returns-then-room-size : goal.returns-then-room-size
 returns-then-room-size c =
     room_15 _ _ _ _ (omega arith) (omega (arith, c.find_longest_payload.ensures)) _
-    (ap (λ (k : ℕ). c.args + k) c.measure_packet.ensures) (omega arith)
+    (ap (λ (k : ℕ). c.args.before + k) c.measure_packet.ensures) (omega arith)
 
 pub returns : goal.returns
 returns c =
     room-done _ _ _ _ (omega arith) (omega (arith, c.find_longest_payload.ensures)) _
-    (ap (λ (k : ℕ). c.args + k) c.measure_packet.ensures) (omega arith)
-
-
+    (ap (λ (k : ℕ). c.args.before + k) c.measure_packet.ensures) (omega arith)

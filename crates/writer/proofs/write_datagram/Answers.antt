@@ -13,15 +13,12 @@ use Rattle.writer.proofs.Promised.{writes}
 use borrow.Author.Rules.{rules}
 use Rattle.writer.proofs.write_datagram.Goals as goal
 
-iv-size : (c : tie.Start) → length c.args.iv ≡ 16
-iv-size c = search rules
-
 pub slice_bounds-write_packet-count : goal.slice_bounds-write_packet-count
 slice_bounds-write_packet-count c =
     let a = c.args in
     let e = room_inv (suite_of a.s) 4 (length a.payload.now) (length a.out.now) _
     (sym c.check_room-t.ensures ∙ ap stage_told c.in-Go.is) in
-    omega (arith, e.1, c.put.auto.0)
+    omega (arith, e.1, c.put.auto.dst)
 
 pub slice_bounds-write_packet-start : goal.slice_bounds-write_packet-start
 slice_bounds-write_packet-start c = slice_bounds-write_packet-count c
@@ -31,5 +28,22 @@ write_packet-requires c =
     let a = c.args in
     let e = room_inv (suite_of a.s) 4 (length a.payload.now) (length a.out.now) _
     (sym c.check_room-t.ensures ∙ ap stage_told c.in-Go.is) in
-    let d = c.put.new.0 in
-    (e.0, omega (arith, e.1, c.put.auto.0, ap length (to_end (length d) 4 d (omega arith)), length-drop 4 d))
+    let d = c.put.new.dst in
+    (e.0, omega (arith, e.1, c.put.auto.dst, ap length (to_end (length d) 4 d (omega arith)), length-drop 4 d))
+
+pub returns-in-Stop-clause-write_promise : goal.returns-in-Stop-clause-write_promise
+unfolding write_datagram_of
+returns-in-Stop-clause-write_promise c =
+    writes _ _ _ _ (write-no _ _ _ outer _ _ c.check_room-t.ensures _ _ (ap stage_told c.in-Stop.is))
+
+pub returns-in-Go-clause-write_promise : goal.returns-in-Go-clause-write_promise
+unfolding write_datagram_of
+returns-in-Go-clause-write_promise c =
+    let a = c.args in
+    let iv-size : length a.iv ≡ 16 = search rules in
+    let e = room_inv (suite_of a.s) 4 (length a.payload.now) (length a.out.now) _
+    (sym c.check_room-t.ensures ∙ ap stage_told c.in-Go.is) in
+    writes _ _ _ _
+          (write-yes (suite_of a.s) _ a.iv outer _ _ c.check_room-t.ensures (suite_lengths a.s) iv-size _ _
+          (ap stage_told c.in-Go.is)
+          (datagram-written a.out.now _ _ _ _ (omega (arith, e.1)) c.put.ensures c.write_packet.ensures))

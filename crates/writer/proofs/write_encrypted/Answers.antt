@@ -15,17 +15,15 @@ use Rattle.framing.proofs.Fills.{aes-written}
 use borrow.Author.Rules.{rules}
 use Rattle.writer.proofs.write_encrypted.Goals as goal
 
-iv-size : (c : tie.Start) → length c.args.iv ≡ 16
-iv-size c = search rules
-
 pub returns : goal.returns
 returns c =
     let a = c.args in
+    let iv-size : length a.iv ≡ 16 = search rules in
     let x = a.payload.now in
     let p = c.choose_p-p.result in
     let ep = c.choose_p-p.ensures in
     let whole : length (plain_of x p) % 16 ≡ 0
     = ap (λ (k : ℕ). k % 16) (length-plain x p) ∙ ap (λ (q : ℕ). (length x + q + 1) % 16) ep ∙ p_serves (length x) in
-    aes-written cbc_encrypt encrypt-length a.out.now a.iv x _ _ _ _ _ _ p _ _ (iv-size c) (omega (arith, c.requires.1)) whole c.put.ensures
+    aes-written cbc_encrypt encrypt-length a.out.now a.iv x _ _ _ _ _ _ p _ _ iv-size (omega (arith, c.requires.1)) whole c.put.ensures
     c.put-2.ensures c.put_pad.ensures c.encrypt.ensures c.aes_key-key.ensures
     ∙ ap (λ (q : ℕ). pasted a.out.now 12 (a.iv ++ cbc_encrypt (aes_key_of a.s.keys) a.iv (plain_of x q))) ep

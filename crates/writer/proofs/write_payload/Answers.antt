@@ -12,12 +12,23 @@ use Rattle.writer.proofs.Promised.{writes}
 use borrow.Author.Rules.{rules}
 use Rattle.writer.proofs.write_payload.Goals as goal
 
-iv-size : (c : tie.Start) → length c.args.iv ≡ 16
-iv-size c = search rules
-
 pub write_packet-requires : goal.write_packet-requires
 write_packet-requires c =
     let a = c.args in
     let e = room_inv (suite_of a.s) 0 (length a.payload.now) (length a.out.now) _
     (sym c.check_room-t.ensures ∙ ap stage_told c.in-Go.is) in
     (e.0, omega (arith, e.1))
+
+pub returns-in-Stop-clause-write_promise : goal.returns-in-Stop-clause-write_promise
+unfolding write_of
+returns-in-Stop-clause-write_promise c =
+    writes _ _ _ _ (write-no _ _ _ [] _ _ c.check_room-t.ensures _ _ (ap stage_told c.in-Stop.is))
+
+pub returns-in-Go-clause-write_promise : goal.returns-in-Go-clause-write_promise
+unfolding write_of
+returns-in-Go-clause-write_promise c =
+    let a = c.args in
+    let iv-size : length a.iv ≡ 16 = search rules in
+    writes _ _ _ _
+          (write-yes (suite_of a.s) _ a.iv [] _ _ c.check_room-t.ensures (suite_lengths a.s) iv-size _ _
+          (ap stage_told c.in-Go.is) c.write_packet.ensures)

@@ -104,10 +104,10 @@ seen_arguments κs args answer left =
     }
 
 abbrev pub seen_write : WriteCall → WriteSeen
-seen_write c = seen_arguments c.lifetimes c.args c.answer c.exit.1.1.1.1.1.1.0.now
+seen_write c = seen_arguments c.κs c.args c.answer c.exit.1.1.1.1.1.1.0.now
 
 abbrev pub seen_write_datagram : WriteDatagramCall → WriteSeen
-seen_write_datagram c = seen_arguments c.lifetimes c.args c.answer c.exit.1.1.1.1.1.1.0.now
+seen_write_datagram c = seen_arguments c.κs c.args c.answer c.exit.1.1.1.1.1.1.0.now
 
 -- the algorithms of the session of both read calls, which have the same kinds too
 read_laws : (κs : _) (args : _) → GoodsP κs read-payload-kinds.ps args → Laws (suite_of args.0)
@@ -122,7 +122,7 @@ module _ (c : ReadCall) where
       (Hands (seen_read c).left (suite_of (seen_read c).session).aes)
   read_payload-exact =
       let S : Suite = suite_of r.session in
-      let L : Laws S = read_laws c.lifetimes c.args c.type-inv in
+      let L : Laws S = read_laws c.κs c.args c.typed in
       let e = accepts_exactly S L r.lent c.kept.1 in
       exact (read_of S r.lent) r.answer c.kept.0.tells.answer (Hands r.left S.aes) (λ M. FrameOf S M r.lent) e
       (λ M x f h. handed _ _ _ x h ∙ ap (λ (y : List ℕ). payload_of y S.aes (length M.payload)) c.kept.0.buffer
@@ -137,7 +137,7 @@ module _ (c : ReadDatagramCall) where
       (Hands (drop 4 (seen_read_datagram c).left) (suite_of (seen_read_datagram c).session).aes)
   read_datagram-exact =
       let S : Suite = suite_of d.session in
-      let L : Laws S = read_laws c.lifetimes c.args c.type-inv in
+      let L : Laws S = read_laws c.κs c.args c.typed in
       let e = datagram_exactly S L d.lent c.kept.1 in
       exact (read_datagram_of S d.lent) d.answer c.kept.0.tells.answer (Hands (drop 4 d.left) S.aes) (λ M. DatagramOf S M d.lent) e
       (λ M x f h. handed _ _ _ x h ∙ ap (λ (y : List ℕ). payload_of (drop 4 y) S.aes (length M.payload)) c.kept.0.buffer
@@ -185,9 +185,9 @@ module _ (w : WriteCall) (c : ReadCall) (f : Follows (seen_write w) (seen_read c
   pub write_payload-read_back : ReadBack (seen_write w) (seen_read c).answer (Hands (seen_read c).left (suite_of (seen_read c).session).aes)
   write_payload-read_back =
       let S : Suite = suite_of (seen_read c).session in
-      let M : Message = message w.lifetimes w.args in
-      let L : Laws S = read_laws c.lifetimes c.args c.type-inv in
-      let g = given w.lifetimes w.args w.typed w.kept.1 in
+      let M : Message = message w.κs w.args in
+      let L : Laws S = read_laws c.κs c.args c.typed in
+      let g = given w.κs w.args w.typed w.kept.1 in
       let R = wrote _ _ w.answer f.length _ f.told w.kept.0 in
       let made = written-frame (suite_of w.args.0) (suite_lengths w.args.0).enc-length M _ g _ _ R in
       let o : FrameOf S M (seen_read c).lent = subst₂ (λ (s : SubState) (l : List ℕ). FrameOf (suite_of s) M l) (sym f.session) (sym f.lent) made in
@@ -200,9 +200,9 @@ module _ (w : WriteDatagramCall) (c : ReadDatagramCall) (f : Follows (seen_write
       (Hands (drop 4 (seen_read_datagram c).left) (suite_of (seen_read_datagram c).session).aes)
   write_datagram-read_back =
       let S : Suite = suite_of (seen_read_datagram c).session in
-      let M : Message = message w.lifetimes w.args in
-      let L : Laws S = read_laws c.lifetimes c.args c.type-inv in
-      let g = given w.lifetimes w.args w.typed w.kept.1 in
+      let M : Message = message w.κs w.args in
+      let L : Laws S = read_laws c.κs c.args c.typed in
+      let g = given w.κs w.args w.typed w.kept.1 in
       let R = wrote _ _ w.answer f.length _ f.told w.kept.0 in
       let made = written-datagram (suite_of w.args.0) (suite_lengths w.args.0).enc-length M _ g _ _ R in
       let o : DatagramOf S M (seen_read_datagram c).lent

@@ -86,7 +86,7 @@ module _ (c : OnceCall) where
       (seen_once c).answer.read.answer (Hands (seen_once c).left (suite_of (seen_once c).session).aes)
   once-payload-exact =
       let S : Suite = suite_of o.session in
-      let L : Laws S = once_laws c.lifetimes c.args c.type-inv in
+      let L : Laws S = once_laws c.κs c.args c.typed in
       let e = accepts_exactly S L o.lent c.kept.1 in
       once-exact o.arrivals (read_of S o.lent) _ _ _ (λ M. FrameOf S M o.lent) e (read_below S o.lent) o.answer o.left c.kept.0
       (Hands o.left S.aes)
@@ -113,7 +113,7 @@ module _ (c : OnceDatagramCall) where
       (seen_once_datagram c).answer.read.answer (Hands (drop 4 (seen_once_datagram c).left) (suite_of (seen_once_datagram c).session).aes)
   once-datagram-exact =
       let S : Suite = suite_of d.session in
-      let L : Laws S = once_laws c.lifetimes c.args c.type-inv in
+      let L : Laws S = once_laws c.κs c.args c.typed in
       let e = datagram_exactly S L d.lent c.kept.1 in
       once-exact d.arrivals (read_datagram_of S d.lent) _ _ _ (λ M. DatagramOf S M d.lent) e (datagram-below S d.lent) d.answer d.left
       c.kept.0 (Hands (drop 4 d.left) S.aes)

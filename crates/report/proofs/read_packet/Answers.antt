@@ -1,0 +1,28 @@
+-- `read_packet` keeps its promise: one law for each answer.
+use Prim.Native.Nat.{◌<◌}
+use native.Mathlib.Omega.{arith}
+use mathlib.Core.Path.{◌≡◌}
+use lib.ListN.{length}
+use Rattle.report.specs.Told.{longest}
+use Rattle.report.proofs.Telling.{none, long, finds}
+use borrow.Author.Rules.{rules}
+use Rattle.report.proofs.read_packet.Goals as goal
+
+pub returns-then-packet-eq0 : goal.returns-then-packet-eq0
+returns-then-packet-eq0 c =
+    let l = c.args.packet.now in
+    let h : length l ≡ 0 = omega arith in
+    none l h
+
+pub returns-then-packet-gt-LONGEST : goal.returns-then-packet-gt-LONGEST
+returns-then-packet-gt-LONGEST c =
+    let l = c.args.packet.now in
+    let h : longest < length l = omega arith in
+    long l h
+
+pub returns : goal.returns
+returns c =
+    let telling = c.make_telling in
+    finds _ _ _ _ telling.result (omega arith) (omega arith) c.make_session.ensures
+    c.read_checked-r.ensures
+    telling.ensures

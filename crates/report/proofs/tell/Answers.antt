@@ -1,0 +1,9 @@
+-- `tell` keeps its promise: the line of what was found is added.
+use Rattle.report.proofs.Telling.{tells}
+use borrow.Author.Rules.{rules}
+use Rattle.report.proofs.tell.Goals as goal
+
+pub returns : goal.returns
+returns c =
+    let read = c.read_packet-t in
+    tells _ _ _ _ read.result _ read.ensures c.packet_line.ensures

@@ -125,9 +125,9 @@ five_tests a b c d e v x f =
 -- 40 is the length's own: behind its test there is none
 own_40 : (b d e : Bool) → (need {A = Unit {0}} b 40 0 (need d 34 0 (need e 15 0 (accept tt))) ≡ refuse 40 0) ↔ (b ≡ false)
 own_40 b d e =
-    need_own b 40 0 _ (λ h.
-    let p = need-past d 34 0 _ {m = 40} (λ z. omega arith) h in
-    refuse≢accept 40 0 tt (sym (need-past e 15 0 _ {m = 40} (λ z. omega arith) p.1).1))
+    need_own b 40 0 _ (λ (h : need {A = Unit {0}} d 34 0 (need e 15 0 (accept tt)) ≡ refuse 40 0).
+    let p = need-past d 34 0 _ {m = 40} (λ (z : 34 ≡ 40). omega arith) h in
+    refuse≢accept 40 0 tt (sym (need-past e 15 0 _ {m = 40} (λ (z : 15 ≡ 40). omega arith) p.1).1))
 
 module _ (c : BeginCall) where
   pub begin_order : told c.answer.answer

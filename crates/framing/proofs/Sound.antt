@@ -13,7 +13,6 @@ use Rattle.refusal.proofs.Order.{need_inv, then_inv, accept_inj}
 use Rattle.octets.specs.Bytes.{Bytes}
 use Rattle.octets.specs.Number.{le, unle}
 use Rattle.octets.specs.Place.{part}
-use Rattle.octets.specs.Equal.{same}
 use Rattle.framing.specs.Known.{known}
 use Rattle.framing.specs.Suite.{Suite, Laws}
 use Rattle.framing.specs.Packet.{Message, Filling, Legal, bit, counting, plain_of, body_of, header_of, framed, covered, build}

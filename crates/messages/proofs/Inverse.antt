@@ -7,7 +7,7 @@ use lib.Dec.{leb}
 use Rattle.refusal.specs.Order.{accept}
 use Rattle.refusal.proofs.Order.{pass}
 use Rattle.messages.specs.Auth.{authentication_code, integrity_code, confidentiality_code}
-use Rattle.messages.specs.Block.{Block, last_code, known, block_of, block_bytes, numbers, bytes_of}
+use Rattle.messages.specs.Block.{last_code, known, block_of, block_bytes, numbers, bytes_of}
 use Rattle.messages.specs.Answers.{told_block}
 use Rattle.messages.specs.declared.auth.AuthenticationAlgorithm.{AuthenticationAlgorithm}
 use Rattle.messages.specs.declared.auth.AuthenticationAlgorithm.TheVariants.{RakpNone, RakpHmacSha1, RakpHmacMd5, RakpHmacSha256}

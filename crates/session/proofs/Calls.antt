@@ -68,14 +68,14 @@ seen_two c = record { lent = c.args.1.1.1.1.0.now; answer = c.answer; left = c.e
 -- the system sends upon the bytes that were written; the password and the Kg are the system's
 pub record Calls (y : System) : Type 0 where
   pub begin : BeginCall
-  pub open_response_lem : OpenCall
+  pub opening : OpenCall
   pub message_2 : TwoCall
-  pub open_record : open_response_lem.args.0 ≡ begin.answer.state
-  pub open_message : open_response_lem.args.1.0.now ≡ response y (sent (seen_begin begin))
-  pub two_record : message_2.args.0 ≡ open_response_lem.answer.state
+  pub open_record : opening.args.0 ≡ begin.answer.state
+  pub open_message : opening.args.1.0.now ≡ response y (sent (seen_begin begin))
+  pub two_record : message_2.args.0 ≡ opening.answer.state
   pub two-kg : message_2.args.1.0.now ≡ y.kg
   pub two-password : message_2.args.1.1.0.now ≡ y.password
-  pub two-message : message_2.args.1.1.1.0.now ≡ second y (sent (seen_begin begin)) (sent (seen_open open_response_lem))
+  pub two-message : message_2.args.1.1.1.0.now ≡ second y (sent (seen_begin begin)) (sent (seen_open opening))
 
 -- then `message_4`, given the record s and the message m, and `sub_state`, given the record that it answered
 pub record Ends (s : Record) (m : List ℕ) : Type 0 where
@@ -150,13 +150,13 @@ module _ (y : System) (c : Calls y) where
   name = name_lent c.begin
 
   abbrev pub random : List ℕ
-  random = c.open_response_lem.args.1.1.0
+  random = c.opening.args.1.1.0
 
   abbrev pub request : Seen
   request = seen_begin c.begin
 
   abbrev pub one : Seen
-  one = seen_open c.open_response_lem
+  one = seen_open c.opening
 
   abbrev pub three : Seen
   three = seen_two c.message_2
@@ -169,7 +169,7 @@ module _ (y : System) (c : Calls y) where
     steps : StepsAgree longest_password y asked name random (length one.lent) (length three.lent) began
     steps =
         exchanged longest_password y h.regular asked name random (length one.lent) (length three.lent)
-        (console-small c.begin) h.console h.level h.short h.username (random_sixteen c.open_response_lem) h.password h.room₁ h.room₃
+        (console-small c.begin) h.console h.level h.short h.username (random_sixteen c.opening) h.password h.room₁ h.room₃
 
     begin-made : begin_of asked name (length request.lent) ≡ accept began
     begin-made = begin-accepts asked name (length request.lent) h.console h.level h.short h.username h.room
@@ -177,7 +177,7 @@ module _ (y : System) (c : Calls y) where
     sent₀ : sent request ≡ began.bytes
     sent₀ = made-sent _ began closed request c.begin.kept begin-made
 
-    open_made : open_of c.open_response_lem.args.0 c.open_response_lem.args.1.0.now random (length one.lent) ≡ accept steps.answered
+    open_made : open_of c.opening.args.0 c.opening.args.1.0.now random (length one.lent) ≡ accept steps.answered
     open_made =
         ap₂ (λ (s : Record) (m : List ℕ). open_of s m random (length one.lent))
         (c.open_record ∙ made-next _ began closed request c.begin.kept begin-made)
@@ -185,14 +185,14 @@ module _ (y : System) (c : Calls y) where
         ∙ steps.accepts-response
 
     sent₁ : sent one ≡ steps.answered.bytes
-    sent₁ = made-sent _ steps.answered c.open_response_lem.args.0 one c.open_response_lem.kept open_made
+    sent₁ = made-sent _ steps.answered c.opening.args.0 one c.opening.kept open_made
 
     two_made : two_of longest_password c.message_2.args.0 c.message_2.args.1.0.now c.message_2.args.1.1.0.now
         c.message_2.args.1.1.1.0.now (length three.lent)
         ≡ accept steps.keyed
     two_made =
         two-same (length three.lent)
-        (c.two_record ∙ made-next _ steps.answered c.open_response_lem.args.0 one c.open_response_lem.kept open_made)
+        (c.two_record ∙ made-next _ steps.answered c.opening.args.0 one c.opening.kept open_made)
         c.two-kg
         c.two-password
         (c.two-message ∙ ap₂ (second y) sent₀ sent₁)
@@ -226,7 +226,7 @@ module _ (y : System) (c : Calls y) where
           let z₁ = opened-same y sent₀ sent₁ sent₃ four-next steps.opens in
           record {
             begins = made-wrote _ began closed request c.begin.kept begin-made;
-            accepts-response = made-wrote _ steps.answered c.open_response_lem.args.0 one c.open_response_lem.kept open_made;
+            accepts-response = made-wrote _ steps.answered c.opening.args.0 one c.opening.kept open_made;
             accepts-two = made-wrote _ steps.keyed c.message_2.args.0 three c.message_2.kept two_made;
             hears = hears-same y sent₀ sent₁ sent₃ asked name random steps.hears;
             accepts-four = outcome-one z.message_4.answer.answer Done (z.message_4.kept.answer ∙ ap done four-made);

@@ -7,7 +7,6 @@ use lib.Bits.{bit_xor}
 use lib.ListN.{get_or}
 use Rattle.octets.specs.Tab.{tab}
 use Rattle.aes.specs.State.{add_round_key}
-use borrow.Author.Rules.{rules}
 use Rattle.aes.proofs.add_round_key.Goals as goal
 
 pub returns : goal.returns
@@ -19,5 +18,3 @@ returns c =
     let n : ℕ = a.n in
     let z : 16 * n ≡ 16 * n + 0 = omega arith in
     ap (λ (k : ℕ). bit_xor (get_or s 0 0) (get_or w k 0) ∷ tab 15 (λ j. bit_xor (get_or s (suc j) 0) (get_or w (16 * n + suc j) 0))) z
-
-

@@ -1,7 +1,6 @@
 -- `inv_mix_columns` keeps its promise, byte by byte from what `unmix_byte` ensures.
 use mathlib.Core.List.{[], ◌∷◌}
 use Rattle.aes.specs.State.{unmix_columns}
-use borrow.Author.Rules.{rules}
 use Rattle.aes.proofs.inv_mix_columns.Goals as goal
 
 pub returns : goal.returns

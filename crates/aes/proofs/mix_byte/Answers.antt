@@ -3,12 +3,9 @@ use Prim.Native.Nat.{ℕ}
 use mathlib.Core.Path.{◌∙◌, ap}
 use lib.Bits.{bit_xor}
 use Rattle.aes.proofs.Mix.{mix_one}
-use borrow.Author.Rules.{rules}
 use Rattle.aes.proofs.mix_byte.Goals as goal
 
 pub returns : goal.returns
 returns c =
     let s = c.args in
     ap (λ (x : ℕ). bit_xor (bit_xor x s.b) (bit_xor s.c s.d)) c.xtime.ensures ∙ mix_one s.a s.b s.c s.d
-
-

@@ -1,7 +1,6 @@
 -- `mix_columns` keeps its promise, byte by byte from what `mix_byte` ensures.
 use mathlib.Core.List.{[], ◌∷◌}
 use Rattle.aes.specs.State.{mix_columns}
-use borrow.Author.Rules.{rules}
 use Rattle.aes.proofs.mix_columns.Goals as goal
 
 pub returns : goal.returns

@@ -5,7 +5,6 @@ use lib.Bits.{bit_xor}
 use Rattle.sbox.specs.Field.{xtime}
 use Rattle.aes.proofs.Quad.{quad}
 use Rattle.aes.proofs.Mix.{unmix_one}
-use borrow.Author.Rules.{rules}
 use Rattle.aes.proofs.unmix_byte.Goals as goal
 
 pub returns : goal.returns
@@ -17,5 +16,3 @@ returns c =
     ∙ ap (λ (x : ℕ). xtime (bit_xor x (bit_xor s.a s.b)))
     (c.xtime-f.ensures ∙ ap (λ (x : ℕ). xtime (bit_xor x (bit_xor s.a s.c))) c.xtime-e.ensures))
     ∙ unmix_one s.a s.b s.c s.d
-
-

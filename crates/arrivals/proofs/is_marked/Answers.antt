@@ -3,7 +3,6 @@ use native.Mathlib.Omega.{arith}
 use mathlib.Core.Path.{sym}
 use Rattle.arrivals.specs.Marks.{mark_of}
 use Rattle.arrivals.proofs.Taking.{above_unmarked, below_unmarked, within-marked}
-use borrow.Author.Rules.{rules}
 use Rattle.arrivals.proofs.is_marked.Goals as goal
 
 pub returns-then-a-n : goal.returns-then-a-n

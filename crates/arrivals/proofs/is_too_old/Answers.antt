@@ -1,7 +1,6 @@
 -- `is_too_old` keeps its promise: a law for each way out.
 use native.Mathlib.Omega.{arith}
 use Rattle.arrivals.proofs.Taking.{old-zero, old-above, old_below}
-use borrow.Author.Rules.{rules}
 use Rattle.arrivals.proofs.is_too_old.Goals as goal
 
 pub returns-then-n-eq0 : goal.returns-then-n-eq0

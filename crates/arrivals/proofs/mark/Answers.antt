@@ -1,7 +1,6 @@
 -- `mark` keeps its promise: a higher number moves the marks up, a lower one sets its own.
 use native.Mathlib.Omega.{arith}
 use Rattle.arrivals.proofs.Taking.{taken-above, taken-below, young}
-use borrow.Author.Rules.{rules}
 use Rattle.arrivals.proofs.mark.Goals as goal
 
 pub returns-then-a-n : goal.returns-then-a-n

@@ -1,6 +1,5 @@
 -- `move_up` keeps its promise: one mark alone, or the marks shifted.
 use Rattle.arrivals.proofs.Taking.{moved-far, moved-near}
-use borrow.Author.Rules.{rules}
 use Rattle.arrivals.proofs.move_up.Goals as goal
 
 pub returns-then-d-gt31 : goal.returns-then-d-gt31

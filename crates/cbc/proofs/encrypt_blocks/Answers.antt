@@ -1,14 +1,13 @@
 -- `encrypt_blocks` keeps its promise: what is done and the run over the rest are always the whole run.
-use Prim.Native.Nat.{◌≤◌, ◌-◌, ◌*◌, ◌/◌, ℕ}
+use Prim.Native.Nat.{◌*◌, ◌/◌, ℕ}
 use native.Mathlib.Omega.{arith}
-use mathlib.Core.Path.{◌≡◌, sym, ◌∙◌, ap}
-use mathlib.Core.List.{List, ◌++◌}
-use borrow.Author.Rules.{rules}
-use lib.ListN.{take, drop, length}
+use mathlib.Core.Path.{sym, ◌∙◌, ap}
+use mathlib.Core.List.{List}
+use lib.ListN.{length}
 use Rattle.octets.proofs.Filled.{filled-part}
 use Rattle.aes.specs.Cipher.{cipher}
 use Rattle.aes.specs.Schedule.{keys_of}
-use Rattle.cbc.proofs.Run.{run, run-start, run-turn, run_end, sealed, sealed-length, encrypt-run}
+use Rattle.cbc.proofs.Run.{run-turn, run_end, sealed, sealed-length, encrypt-run}
 use Rattle.cbc.proofs.encrypt_blocks.Goals as goal
 
 pub loop-i-preserved : goal.loop-i-preserved

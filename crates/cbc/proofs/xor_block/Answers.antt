@@ -1,7 +1,6 @@
 -- `xor_block` keeps its promise: the definition computes to the sums named.
 use mathlib.Core.Path.{refl}
 use Rattle.cbc.specs.Cbc.{xor_block}
-use borrow.Author.Rules.{rules}
 use Rattle.cbc.proofs.xor_block.Goals as goal
 
 pub returns : goal.returns

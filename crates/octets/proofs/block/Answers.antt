@@ -5,7 +5,6 @@ use native.Mathlib.Omega.{arith}
 use mathlib.Core.Path.{◌≡◌, ap}
 use Rattle.octets.specs.Place.{part}
 use Rattle.octets.proofs.Filled.{filled-past, put-part, part-rest}
-use borrow.Author.Rules.{rules}
 use Rattle.octets.proofs.block.Goals as goal
 
 pub returns-then-s-at : goal.returns-then-s-at

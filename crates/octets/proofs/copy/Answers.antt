@@ -1,11 +1,9 @@
 -- `copy` keeps its promise: after i turns the first i bytes of the source are pasted.
-use mathlib.Core.Path.{◌≡◌, refl, ◌∙◌, ap}
-use Prim.Native.Nat.{◌≤◌, ◌-◌}
+use mathlib.Core.Path.{◌≡◌, ◌∙◌, ap}
 use native.Mathlib.Omega.{arith}
 use lib.ListN.{length, length-set}
-use lib.Seq.{paste, paste-zero}
+use lib.Seq.{paste}
 use Rattle.octets.proofs.Place.{copy-turn, paste-whole}
-use borrow.Author.Rules.{rules}
 use Rattle.octets.proofs.copy.Goals as goal
 
 pub loop-i-preserved : goal.loop-i-preserved

@@ -1,9 +1,6 @@
 -- `put` keeps its promise: each refusal is a length that does not fit.
 use native.Mathlib.Omega.{arith}
-use mathlib.Core.Path.{◌∙◌, ap}
-use lib.ListN.{length}
-use Rattle.octets.proofs.Place.{put-no, put-yes, length-pasted}
-use borrow.Author.Rules.{rules}
+use Rattle.octets.proofs.Place.{put-no, put-yes}
 use Rattle.octets.proofs.put.Goals as goal
 
 pub returns-then-dst-src : goal.returns-then-dst-src

@@ -1,14 +1,7 @@
 -- `same` keeps its promise: after i turns the sum of differences is zero exactly where the first i bytes are equal.
-use mathlib.Core.Path.{ap₂}
-use lib.Seq.{take_all}
-use mathlib.Core.Path.{◌≡◌, refl, sym, ◌∙◌}
-use Prim.Native.Nat.{◌≤◌, ◌-◌}
+use mathlib.Core.Path.{sym}
 use native.Mathlib.Omega.{arith}
-use lib.Dec.{eqb}
-use lib.ListN.{length, take}
-use Rattle.octets.specs.Equal.{same}
 use Rattle.octets.proofs.Equal.{same_turn, same_lengths}
-use borrow.Author.Rules.{rules}
 use Rattle.octets.proofs.same.Goals as goal
 
 pub returns-then-a-b : goal.returns-then-a-b

@@ -1,6 +1,5 @@
 -- `check_number` keeps its promise: a law for each way out.
 use Rattle.once.proofs.Promised.{number-none, number-taken, number-refused}
-use borrow.Author.Rules.{rules}
 use Rattle.once.proofs.check_number.Goals as goal
 
 pub returns-in_default : goal.returns-in_default

@@ -4,7 +4,6 @@ use mathlib.Core.Path.{refl, ap, sym, ◌∙◌}
 use Rattle.refusal.specs.Outcome.{told}
 use Rattle.framing.proofs.Outer.{outer_inv}
 use Rattle.once.proofs.Outer.{outer-refused, outer-passed}
-use borrow.Author.Rules.{rules}
 use Rattle.once.proofs.read_datagram.Goals as goal
 
 pub slice_bounds-read_payload-count : goal.slice_bounds-read_payload-count

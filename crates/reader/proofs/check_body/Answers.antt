@@ -9,7 +9,6 @@ use Rattle.framing.specs.Read.{payload_in}
 use Rattle.suite.specs.Session.{suite_of}
 use Rattle.octets.proofs.Place.{to_end}
 use Rattle.framing.proofs.Body.{body_1, body_9, body-on}
-use borrow.Author.Rules.{rules}
 use Rattle.reader.proofs.check_body.Goals as goal
 
 pub returns-then-left-lt12 : goal.returns-then-left-lt12

@@ -4,7 +4,6 @@ use mathlib.Core.Path.{ap, sym, ◌∙◌}
 use Rattle.framing.specs.Packet.{bit}
 use Rattle.framing.proofs.Head.{head_1, head_2, head_3, head_4, head_5, head_9, head_done}
 use Rattle.reader.specs.Answers.{head_told}
-use borrow.Author.Rules.{rules}
 use Rattle.reader.proofs.check_head.Goals as goal
 
 pub returns-then-packet-lt10 : goal.returns-then-packet-lt10

@@ -1,9 +1,7 @@
 -- `check_trailer` keeps its promise: a law for each way out.
 use native.Mathlib.Omega.{arith}
 use mathlib.Core.Path.{refl}
-use borrow.Author.Tests.{not-true, not-false}
 use Rattle.framing.proofs.Trailer.{trailer_6, trailer_7, trailer-short, trailer_8, trailer-done}
-use borrow.Author.Rules.{rules}
 use Rattle.reader.proofs.check_trailer.Goals as goal
 
 pub returns-then-packet-m : goal.returns-then-packet-m

@@ -5,7 +5,6 @@ use Rattle.suite.specs.Told.{stage_told}
 use Rattle.suite.specs.Session.{suite_of}
 use Rattle.framing.proofs.Trailer.{before-left}
 use Rattle.framing.proofs.Rest.{behind_stop, behind_go}
-use borrow.Author.Rules.{rules}
 use Rattle.reader.proofs.find_payload.Goals as goal
 
 pub slice_bounds-check_body-end : goal.slice_bounds-check_body-end

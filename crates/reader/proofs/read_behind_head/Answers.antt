@@ -3,17 +3,14 @@ use Prim.Native.Nat.{ℕ}
 use native.Mathlib.Omega.{arith}
 use mathlib.Core.List.{List}
 use mathlib.Core.Path.{◌≡◌, ap, sym, subst}
-use lib.ListN.{length, take}
-use lib.Seq.{length-take-le}
+use lib.ListN.{take}
 use Rattle.framing.specs.Read.{Computed}
 use Rattle.framing.proofs.Sound.{head_inv}
 use Rattle.framing.proofs.Coded.{told-computed}
 use Rattle.suite.specs.Types.{code_length}
 use Rattle.suite.specs.Session.{suite_of}
-use Rattle.suite.specs.Code.{longest_code}
 use Rattle.suite.proofs.Suites.{code-short}
 use Rattle.reader.proofs.Promised.{tells}
-use borrow.Author.Rules.{rules}
 use Rattle.reader.proofs.read_behind_head.Goals as goal
 
 pub expect_code-c-requires : goal.expect_code-c-requires

@@ -1,9 +1,8 @@
 -- `read_checked` keeps its promise: the head decides, or what stands behind it.
-use mathlib.Core.Path.{ap, sym, ◌∙◌}
+use mathlib.Core.Path.{ap}
 use Rattle.reader.specs.Answers.{head_told}
 use Rattle.framing.proofs.Coded.{told-head}
 use Rattle.reader.proofs.Promised.{tells}
-use borrow.Author.Rules.{rules}
 use Rattle.reader.proofs.read_checked.Goals as goal
 
 pub returns-in-Stop : goal.returns-in-Stop

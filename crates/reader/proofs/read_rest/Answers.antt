@@ -2,7 +2,6 @@
 use mathlib.Core.Path.{ap, refl}
 use Rattle.suite.specs.Told.{stage_told}
 use Rattle.framing.proofs.Rest.{rest_stop, rest-go}
-use borrow.Author.Rules.{rules}
 use Rattle.reader.proofs.read_rest.Goals as goal
 
 pub returns-in-Stop : goal.returns-in-Stop

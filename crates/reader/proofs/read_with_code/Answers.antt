@@ -3,7 +3,6 @@ use mathlib.Core.Path.{ap, sym, ◌∙◌}
 use Rattle.reader.specs.Answers.{head_told}
 use Rattle.framing.proofs.Coded.{told-refused, told-behind}
 use Rattle.reader.proofs.Promised.{tells}
-use borrow.Author.Rules.{rules}
 use Rattle.reader.proofs.read_with_code.Goals as goal
 
 pub returns-in-Stop : goal.returns-in-Stop

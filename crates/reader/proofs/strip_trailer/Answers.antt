@@ -1,7 +1,6 @@
 -- `strip_trailer` keeps its promise: with a code the trailer decides, without one all is left.
 use mathlib.Core.Path.{sym, ◌∙◌}
 use Rattle.framing.proofs.Trailer.{before-bare, before-auth}
-use borrow.Author.Rules.{rules}
 use Rattle.reader.proofs.strip_trailer.Goals as goal
 
 pub returns-then-carries_code : goal.returns-then-carries_code

@@ -5,7 +5,6 @@ use mathlib.Core.Path.{◌≡◌}
 use lib.ListN.{length}
 use Rattle.report.specs.Told.{longest}
 use Rattle.report.proofs.Telling.{none, long, finds}
-use borrow.Author.Rules.{rules}
 use Rattle.report.proofs.read_packet.Goals as goal
 
 pub returns-then-packet-eq0 : goal.returns-then-packet-eq0

@@ -1,6 +1,5 @@
 -- `tell` keeps its promise: the line of what was found is added.
 use Rattle.report.proofs.Telling.{tells}
-use borrow.Author.Rules.{rules}
 use Rattle.report.proofs.tell.Goals as goal
 
 pub returns : goal.returns

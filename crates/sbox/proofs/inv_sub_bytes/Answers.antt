@@ -7,7 +7,6 @@ use mathlib.Core.List.{List, [], ◌∷◌}
 use lib.ListN.{get_or}
 use Rattle.sbox.specs.Substitution.{unsub_bytes, unsub_byte}
 use Rattle.sbox.proofs.Table.{unsbox_rule, unsbox}
-use borrow.Author.Rules.{rules}
 use Rattle.sbox.proofs.inv_sub_bytes.Goals as goal
 
 pub returns : goal.returns

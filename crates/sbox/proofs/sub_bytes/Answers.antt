@@ -7,7 +7,6 @@ use mathlib.Core.List.{List, [], ◌∷◌}
 use lib.ListN.{get_or}
 use Rattle.sbox.specs.Substitution.{sub_bytes, sub_byte}
 use Rattle.sbox.proofs.Table.{sbox_rule, sbox}
-use borrow.Author.Rules.{rules}
 use Rattle.sbox.proofs.sub_bytes.Goals as goal
 
 pub returns : goal.returns

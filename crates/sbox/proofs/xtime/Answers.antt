@@ -4,7 +4,6 @@ use native.Mathlib.Omega.{arith}
 use mathlib.Core.Path.{◌≡◌, ap₂}
 use lib.Bits.{bit_xor}
 use Rattle.sbox.specs.Field.{xtime}
-use borrow.Author.Rules.{rules}
 use Rattle.sbox.proofs.xtime.Goals as goal
 
 pub returns : goal.returns

@@ -1,5 +1,5 @@
 -- `blocks` keeps its promise. Invariant: the blocks before `at` are compressed.
-use Rattle.std.proofs.Common.{◌≡◌, ◌-◌, ◌/◌, ◌%◌, ◌≤◌, length, arith, rules}
+use Rattle.std.proofs.Common.{rules}
 use Rattle.running.specs.Hash.{runs}
 use Rattle.running.proofs.Blocks.{runs-next}
 use Rattle.sha1_block.specs.Block.{sha1_hash}

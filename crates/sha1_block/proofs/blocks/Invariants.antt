@@ -1,7 +1,6 @@
 -- `blocks` keeps its promise. Invariant: the blocks before `at` are compressed.
-use Rattle.std.proofs.Common.{◌≡◌, ◌-◌, ◌/◌, ◌%◌, ◌≤◌, length, arith, rules}
+use Rattle.std.proofs.Common.{◌≡◌, ◌-◌, ◌/◌, ◌%◌, ◌≤◌, length}
 use Rattle.running.specs.Hash.{runs}
-use Rattle.running.proofs.Blocks.{runs-next}
 use Rattle.sha1_block.specs.Block.{sha1_hash}
 use Rattle.sha1_block.proofs.blocks.Given as goal
 

@@ -1,6 +1,5 @@
 -- `compress_block` keeps its promise: four runs of twenty rounds are the eighty.
 use Rattle.sha1_block.proofs.Laws.{whole}
-use Rattle.std.proofs.Common.{rules}
 use Rattle.sha1_block.proofs.compress_block.Goals as goal
 
 pub returns : goal.returns

@@ -18,5 +18,3 @@ returns-then-t-lt60 c = simp (le-ltb _ _ c.if-t-lt20.false, le-ltb _ _ c.if-t-lt
 pub returns : goal.returns
 unfolding k_t
 returns c = simp (le-ltb _ _ c.if-t-lt20.false, le-ltb _ _ c.if-t-lt40.false, le-ltb _ _ c.if-t-lt60.false)
-
-

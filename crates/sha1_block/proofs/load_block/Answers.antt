@@ -1,5 +1,5 @@
 -- `load_block` keeps its promise. Invariant: the first t words are the block's first t words.
-use Rattle.std.proofs.Common.{◌≡◌, ◌-◌, ◌≤◌, length, take, arith, rules}
+use Rattle.std.proofs.Common.{arith, rules}
 use Rattle.sha1_block.specs.Block.{words}
 use Rattle.sha1_block.proofs.Laws.{words_more}
 use Rattle.sha1_block.proofs.load_block.Goals as goal
@@ -12,5 +12,3 @@ pub loop-t-preserved : goal.loop-t-preserved
 loop-t-preserved c =
     let l = c.loop-t in
     (search rules, search rules, words_more l.w _ l.t _ (omega arith) l.invariant.2 c.load_word.ensures)
-
-

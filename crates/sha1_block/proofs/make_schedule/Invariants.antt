@@ -1,7 +1,6 @@
 -- `make_schedule` keeps its promise. Invariant: the first t words are the schedule's first t words.
-use Rattle.std.proofs.Common.{◌≡◌, ◌-◌, ◌≤◌, length, take, sym, ◌∙◌, arith, take_all, rules}
-use Rattle.sha1_block.specs.Block.{words, more, schedule}
-use Rattle.sha1_block.proofs.Laws.{more-more}
+use Rattle.std.proofs.Common.{◌≡◌, ◌-◌, ◌≤◌, length, take}
+use Rattle.sha1_block.specs.Block.{words, more}
 use Rattle.sha1_block.proofs.make_schedule.Given as goal
 
 abbrev pub invariant-loop-t : goal.invariant-loop-t

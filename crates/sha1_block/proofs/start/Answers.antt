@@ -6,5 +6,3 @@ use Rattle.sha1_block.proofs.start.Goals as goal
 pub returns : goal.returns
 unfolding sha1_hash
 returns c = refl
-
-

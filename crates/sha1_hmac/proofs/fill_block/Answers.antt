@@ -1,5 +1,5 @@
 -- `fill_block` keeps its promise: the bytes that wait, and s behind them, put into zeros.
-use Rattle.std.proofs.Common.{◌≡◌, length, sym, arith, length-take-le, rules}
+use Rattle.std.proofs.Common.{◌≡◌, length, arith, rules}
 use Rattle.running.proofs.Rooms.{fill_block_law}
 use Rattle.sha1_hmac.proofs.fill_block.Goals as goal
 

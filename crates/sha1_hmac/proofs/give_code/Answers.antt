@@ -1,5 +1,5 @@
 -- `give_code` keeps its promise.
-use Rattle.std.proofs.Common.{refl, rules}
+use Rattle.std.proofs.Common.{refl}
 use Rattle.refusal.specs.Order.{need}
 use Rattle.sha1_hmac.proofs.give_code.Goals as goal
 

@@ -1,8 +1,5 @@
 -- `hash` keeps its promise: all bytes at once are SHA-1 of them.
-use Rattle.std.proofs.Common.{refl, rules}
-use borrow.Author.Tests.{lt-leb}
 use Rattle.sha1_block.specs.Block.{sha1_hash}
-use Rattle.running.proofs.Promised.{as_no}
 use Rattle.running.proofs.Fed.{hashed_whole}
 use Rattle.sha1_hmac.proofs.hash.Goals as goal
 

@@ -5,7 +5,6 @@ use mathlib.Core.Path.{ap}
 use Rattle.suite.specs.Session.{suite_of}
 use Rattle.suite.proofs.Suites.{code-short}
 use Rattle.framing.proofs.Rooms.{room_13, room_14, room_15, room-done, packet-small}
-use borrow.Author.Rules.{rules}
 use Rattle.writer.proofs.check_room.Goals as goal
 
 pub returns-then-n-gt65535 : goal.returns-then-n-gt65535

@@ -1,12 +1,9 @@
 -- `make_header` keeps its promise: two bytes, then the bytes of the three numbers.
 use Prim.Native.Nat.{◌+◌, ◌*◌}
-use native.Mathlib.Omega.{arith}
 use mathlib.Core.List.{[], ◌∷◌}
 use mathlib.Core.Path.{ap, ◌∙◌}
 use lib.ListN.{get_or}
 use Rattle.framing.specs.Packet.{bit, header_of}
-use Rattle.framing.proofs.Tests.{bit-small}
-use borrow.Author.Rules.{rules}
 use Rattle.writer.proofs.make_header.Goals as goal
 
 pub returns : goal.returns
@@ -31,5 +28,3 @@ returns c =
     ∷ get_or (k i) 0 0
     ∷ get_or (k i) 1 0
     ∷ []
-
-

@@ -1,13 +1,7 @@
 -- `put_pad` keeps its promise: the first p + 1 bytes of the array.
-use native.Mathlib.Omega.{arith}
-use mathlib.Core.Path.{sym}
-use lib.Seq.{length-take-le}
-use Rattle.framing.proofs.Fills.{pad-long, pad-put}
-use borrow.Author.Rules.{rules}
+use Rattle.framing.proofs.Fills.{pad-put}
 use Rattle.writer.proofs.put_pad.Goals as goal
 
 pub returns : goal.returns
 returns c =
     pad-put _ _ _ _ _ c.requires.0 c.requires.1 c.put.ensures
-
-

@@ -6,7 +6,6 @@ use lib.ListN.{length}
 use Rattle.framing.specs.Write.{body_size}
 use Rattle.framing.proofs.Writes.{body-bare, body-aes}
 use Rattle.suite.specs.Session.{suite_of}
-use borrow.Author.Rules.{rules}
 use Rattle.writer.proofs.write_body.Goals as goal
 
 pub returns-then-encrypts : goal.returns-then-encrypts

@@ -34,7 +34,7 @@ returns c =
     let q = c.choose_q-q.ensures in
     let m = c.code_len-m.ensures in
     let size = length-take-le (a.k + c.choose_q-q.result + 1 + 1) c.put_trailer.new.out
-        (omega (arith, c.put_trailer.auto.out, q, c.requires.1)) in
+    (omega (arith, c.put_trailer.auto.out, q, c.requires.1)) in
     let made = code-right _ _ _ c.make_code-c.ensures (omega (arith, size, q, c.requires.0)) in
     let put = c.put in
     let code = take c.code_len-m.result c.make_code-c.result.code in

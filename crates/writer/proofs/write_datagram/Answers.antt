@@ -44,6 +44,6 @@ returns-in-Go-clause-write_promise c =
     let e = room_inv (suite_of a.s) 4 (length a.payload.now) (length a.out.now) _
     (sym c.check_room-t.ensures ∙ ap stage_told c.in-Go.is) in
     writes _ _ _ _
-          (write-yes (suite_of a.s) _ a.iv outer _ _ c.check_room-t.ensures (suite_lengths a.s) iv-size _ _
-          (ap stage_told c.in-Go.is)
-          (datagram-written a.out.now _ _ _ _ (omega (arith, e.1)) c.put.ensures c.write_packet.ensures))
+    (write-yes (suite_of a.s) _ a.iv outer _ _ c.check_room-t.ensures (suite_lengths a.s) iv-size _ _
+    (ap stage_told c.in-Go.is)
+    (datagram-written a.out.now _ _ _ _ (omega (arith, e.1)) c.put.ensures c.write_packet.ensures))

@@ -30,5 +30,5 @@ returns-in-Go-clause-write_promise c =
     let a = c.args in
     let iv-size : length a.iv ≡ 16 = search rules in
     writes _ _ _ _
-          (write-yes (suite_of a.s) _ a.iv [] _ _ c.check_room-t.ensures (suite_lengths a.s) iv-size _ _
-          (ap stage_told c.in-Go.is) c.write_packet.ensures)
+    (write-yes (suite_of a.s) _ a.iv [] _ _ c.check_room-t.ensures (suite_lengths a.s) iv-size _ _
+    (ap stage_told c.in-Go.is) c.write_packet.ensures)

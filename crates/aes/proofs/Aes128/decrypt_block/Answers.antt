@@ -1,9 +1,6 @@
 -- `decrypt_block` keeps its promise: the rounds that are left make of the state what all of them make of the first.
-use Prim.Native.Nat.{◌≤◌}
 use native.Mathlib.Omega.{arith}
-use mathlib.Core.Path.{◌≡◌, refl}
 use borrow.Author.Rules.{rules}
-use Rattle.aes.specs.Cipher.{unrounds}
 use Rattle.aes.specs.Schedule.{keys_of}
 use Rattle.aes.proofs.Rounds.{unround_turn, inv_cipher_end}
 use Rattle.aes.proofs.Aes128.decrypt_block.Goals as goal

@@ -1,7 +1,6 @@
 -- `encrypt_block` keeps its promise: after n turns the state has been through n rounds.
-use Prim.Native.Nat.{◌≤◌, ◌-◌}
 use native.Mathlib.Omega.{arith}
-use mathlib.Core.Path.{◌≡◌, refl}
+use mathlib.Core.Path.{refl}
 use borrow.Author.Rules.{rules}
 use Rattle.aes.specs.Cipher.{rounds}
 use Rattle.aes.specs.Schedule.{keys_of}

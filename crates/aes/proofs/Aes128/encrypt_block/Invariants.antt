@@ -1,11 +1,7 @@
 -- `encrypt_block` keeps its promise: after n turns the state has been through n rounds.
 use Prim.Native.Nat.{◌≤◌, ◌-◌}
-use native.Mathlib.Omega.{arith}
-use mathlib.Core.Path.{◌≡◌, refl}
-use borrow.Author.Rules.{rules}
+use mathlib.Core.Path.{◌≡◌}
 use Rattle.aes.specs.Cipher.{rounds}
-use Rattle.aes.specs.Schedule.{keys_of}
-use Rattle.aes.proofs.Rounds.{round-turn, cipher_end}
 use Rattle.aes.proofs.Aes128.encrypt_block.Given as goal
 
 abbrev pub invariant-loop-n : goal.invariant-loop-n

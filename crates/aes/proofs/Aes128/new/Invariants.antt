@@ -1,12 +1,8 @@
 -- `Aes128::new` keeps its promise: after n turns the first n + 1 round keys stand at the start.
 use Prim.Native.Nat.{◌≤◌, ◌-◌, ◌+◌, ◌*◌}
-use native.Mathlib.Omega.{arith}
-use mathlib.Core.Path.{◌≡◌, refl}
-use borrow.Author.Rules.{rules}
+use mathlib.Core.Path.{◌≡◌}
 use lib.ListN.{take, length}
 use Rattle.aes.specs.Key.{schedule, words, powers}
-use Rattle.aes.specs.Schedule.{keys_of}
-use Rattle.aes.proofs.Keys.{key-first, key-turn, powers-turn, key_end}
 use Rattle.aes.proofs.Aes128.new.Given as goal
 
 abbrev pub invariant-loop-n : goal.invariant-loop-n

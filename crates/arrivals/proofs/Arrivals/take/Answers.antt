@@ -1,7 +1,6 @@
 -- `Arrivals::take` keeps its promise: the two tests in their order, then the mark.
 use mathlib.Core.Path.{sym, ◌∙◌}
 use Rattle.arrivals.proofs.Promised.{refused-old, refused-marked, taken-new}
-use borrow.Author.Rules.{rules}
 use Rattle.arrivals.proofs.Arrivals.take.Goals as goal
 
 pub returns-then-is_too_old : goal.returns-then-is_too_old

@@ -1,8 +1,6 @@
 -- `say_refusal` keeps its promise: the pieces of the number, and those of the byte behind them.
 use mathlib.Core.List.{[], ◌∷◌}
 use mathlib.Core.Path.{sym, ◌∙◌}
-use borrow.Author.Rules.{rules}
-use borrow.Author.Tests.{not-true, not-false}
 use Rattle.text.specs.Digits.{decimal}
 use Rattle.text.specs.Line.{refused_word}
 use Rattle.cases.specs.Answer.{space}

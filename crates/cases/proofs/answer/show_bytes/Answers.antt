@@ -1,5 +1,4 @@
 -- `show_bytes` keeps its promise: one piece is added, `-` or the bytes in hex.
-use borrow.Author.Rules.{rules}
 use Rattle.text.proofs.Writing.{add_of}
 use Rattle.cases.proofs.Saying.{shown-none, shown_some}
 use Rattle.cases.proofs.answer.show_bytes.Goals as goal

@@ -1,6 +1,5 @@
 -- `gather` keeps its promise: the line ends in what is left of the piece, or goes on.
 use native.Mathlib.Omega.{arith}
-use borrow.Author.Rules.{rules}
 use Rattle.cases.proofs.Gathering.{gather-room, gather_end, gather-on}
 use Rattle.cases.proofs.input.gather.Goals as goal
 

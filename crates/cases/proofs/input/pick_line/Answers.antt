@@ -1,7 +1,6 @@
 -- `pick_line` keeps its promise: the line begins where the buffer does.
 use mathlib.Core.Path.{◌∙◌}
 use native.Mathlib.Omega.{arith}
-use borrow.Author.Rules.{rules}
 use Rattle.cases.proofs.Parts.{start-at}
 use Rattle.cases.proofs.Gathering.{line_full, line_taken}
 use Rattle.cases.proofs.input.pick_line.Goals as goal

@@ -1,9 +1,8 @@
 -- `fill_room` keeps its promise: after i turns the room begins with i bytes EE.
-use Prim.Native.Nat.{ℕ, ◌-◌, ◌≤◌}
+use Prim.Native.Nat.{ℕ}
 use mathlib.Core.Path.{◌≡◌, refl, sym, ◌∙◌, ap}
 use native.Mathlib.Omega.{arith}
-use lib.ListN.{length, replicate, length-set}
-use borrow.Author.Rules.{rules}
+use lib.ListN.{replicate, length-set}
 use Rattle.octets.specs.Place.{begun}
 use Rattle.octets.proofs.Place.{begun-none}
 use Rattle.cases.proofs.Rooms.{fill-turn, lent-all, lent_none}

@@ -1,12 +1,8 @@
 -- `fill_room` keeps its promise: after i turns the room begins with i bytes EE.
-use Prim.Native.Nat.{ℕ, ◌-◌, ◌≤◌}
-use mathlib.Core.Path.{◌≡◌, refl, sym, ◌∙◌, ap}
-use native.Mathlib.Omega.{arith}
-use lib.ListN.{length, replicate, length-set}
-use borrow.Author.Rules.{rules}
+use Prim.Native.Nat.{◌-◌, ◌≤◌}
+use mathlib.Core.Path.{◌≡◌}
+use lib.ListN.{length, replicate}
 use Rattle.octets.specs.Place.{begun}
-use Rattle.octets.proofs.Place.{begun-none}
-use Rattle.cases.proofs.Rooms.{fill-turn, lent-all, lent_none}
 use Rattle.cases.proofs.room.fill_room.Given as goal
 
 abbrev pub invariant-loop-i : goal.invariant-loop-i

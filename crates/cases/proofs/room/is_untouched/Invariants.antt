@@ -1,11 +1,8 @@
 -- `is_untouched` keeps its promise: the bytes before the i-th are as they were lent.
 use Prim.Native.Nat.{◌-◌, ◌≤◌}
-use mathlib.Core.Path.{◌≡◌, refl}
-use native.Mathlib.Omega.{arith}
+use mathlib.Core.Path.{◌≡◌}
 use lib.ListN.{length, drop}
-use borrow.Author.Rules.{rules}
 use Rattle.cases.specs.Room.{untouched}
-use Rattle.cases.proofs.Rooms.{touched_here, untouched-here, untouched-all}
 use Rattle.cases.proofs.room.is_untouched.Given as goal
 
 abbrev pub invariant-loop-i : goal.invariant-loop-i

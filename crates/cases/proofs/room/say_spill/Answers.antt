@@ -3,7 +3,6 @@ use mathlib.Core.List.{[], ◌∷◌}
 use Rattle.cases.specs.Room.{spilled_word}
 use Rattle.cases.proofs.Saying.{say_of, say-none, say_piece}
 use Rattle.cases.proofs.Rooms.{spill_none, spill_some}
-use borrow.Author.Rules.{rules}
 use Rattle.cases.proofs.room.say_spill.Goals as goal
 
 pub returns-then-is_untouched : goal.returns-then-is_untouched

@@ -1,13 +1,10 @@
 -- `look_up` keeps its promise: the words before the k-th are others.
-use Prim.Native.Nat.{◌+◌, ◌-◌, ◌<◌, ◌≤◌}
-use mathlib.Core.Path.{◌≡◌, sym, ◌∙◌}
+use Prim.Native.Nat.{◌<◌}
 use native.Mathlib.Omega.{arith}
-use native.Mathlib.Nat.{zero-add}
-use lib.ListN.{length, drop}
-use borrow.Author.Rules.{rules}
+use lib.ListN.{length}
 use Rattle.text.specs.Fields.{cut}
-use Rattle.cases.specs.Fields.{field_of, place_of}
-use Rattle.cases.proofs.Walk.{word-here, word-not, word_none, word-found}
+use Rattle.cases.specs.Fields.{field_of}
+use Rattle.cases.proofs.Walk.{word-here, word-not, word-found}
 use Rattle.cases.proofs.split.look_up.Goals as goal
 
 pub returns-then-same : goal.returns-then-same

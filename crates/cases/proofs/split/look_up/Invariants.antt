@@ -1,13 +1,9 @@
 -- `look_up` keeps its promise: the words before the k-th are others.
-use Prim.Native.Nat.{◌+◌, ◌-◌, ◌<◌, ◌≤◌}
-use mathlib.Core.Path.{◌≡◌, sym, ◌∙◌}
-use native.Mathlib.Omega.{arith}
-use native.Mathlib.Nat.{zero-add}
-use lib.ListN.{length, drop}
-use borrow.Author.Rules.{rules}
+use Prim.Native.Nat.{◌+◌, ◌-◌, ◌≤◌}
+use mathlib.Core.Path.{◌≡◌}
+use lib.ListN.{drop}
 use Rattle.text.specs.Fields.{cut}
-use Rattle.cases.specs.Fields.{field_of, place_of}
-use Rattle.cases.proofs.Walk.{word-here, word-not, word_none, word-found}
+use Rattle.cases.specs.Fields.{place_of}
 use Rattle.cases.proofs.split.look_up.Given as goal
 
 abbrev pub invariant-loop-k : goal.invariant-loop-k

@@ -1,6 +1,5 @@
 -- `pass_field` keeps its promise: behind the separator that the field ends at, or the line's end.
 use native.Mathlib.Omega.{arith}
-use borrow.Author.Rules.{rules}
 use Rattle.cases.proofs.Walk.{past-on, past_end}
 use Rattle.cases.proofs.split.pass_field.Goals as goal
 

@@ -1,9 +1,8 @@
 -- `pick_field` keeps its promise: the place goes on behind one separator with each turn.
-use Prim.Native.Nat.{ℕ, ◌+◌, ◌-◌, ◌≤◌}
-use mathlib.Core.Path.{◌≡◌, refl, ◌∙◌, ap}
+use Prim.Native.Nat.{ℕ, ◌+◌, ◌≤◌}
+use mathlib.Core.Path.{◌≡◌, ◌∙◌, ap}
 use native.Mathlib.Omega.{arith}
 use lib.ListN.{length, drop}
-use borrow.Author.Rules.{rules}
 use Rattle.cases.specs.Fields.{behind}
 use Rattle.cases.proofs.Walk.{behind-next, field_part, field_at}
 use Rattle.cases.proofs.split.pick_field.Goals as goal

@@ -1,11 +1,8 @@
 -- `pick_field` keeps its promise: the place goes on behind one separator with each turn.
-use Prim.Native.Nat.{ℕ, ◌+◌, ◌-◌, ◌≤◌}
-use mathlib.Core.Path.{◌≡◌, refl, ◌∙◌, ap}
-use native.Mathlib.Omega.{arith}
+use Prim.Native.Nat.{◌-◌, ◌≤◌}
+use mathlib.Core.Path.{◌≡◌}
 use lib.ListN.{length, drop}
-use borrow.Author.Rules.{rules}
 use Rattle.cases.specs.Fields.{behind}
-use Rattle.cases.proofs.Walk.{behind-next, field_part, field_at}
 use Rattle.cases.proofs.split.pick_field.Given as goal
 
 abbrev pub invariant-loop-i : goal.invariant-loop-i

@@ -1,7 +1,6 @@
 -- `read_block` keeps its promise: sixteen bytes were read exactly where they end at sixteen.
 use native.Mathlib.Omega.{arith}
 use Rattle.cases.proofs.Reading.{exact-yes, exact-no}
-use borrow.Author.Rules.{rules}
 use Rattle.cases.proofs.values.read_block.Goals as goal
 
 pub returns-then-p-ne16 : goal.returns-then-p-ne16

@@ -2,8 +2,6 @@
 use mathlib.Core.Path.{sym, ◌∙◌}
 use native.Mathlib.Omega.{arith}
 use Rattle.text.proofs.Reading.{number-most}
-use Rattle.cases.proofs.Reading.{counted}
-use borrow.Author.Rules.{rules}
 use Rattle.cases.proofs.values.read_decimal.Goals as goal
 
 pub overflow_cast-result : goal.overflow_cast-result

@@ -1,7 +1,6 @@
 -- `read_sik` keeps its promise: twenty bytes were read exactly where they end at twenty.
 use native.Mathlib.Omega.{arith}
 use Rattle.cases.proofs.Reading.{exact-yes, exact-no}
-use borrow.Author.Rules.{rules}
 use Rattle.cases.proofs.values.read_sik.Goals as goal
 
 pub returns-then-p-ne20 : goal.returns-then-p-ne20

@@ -1,8 +1,6 @@
 -- `unhex_text` keeps its promise: `-` says no bytes, and of anything else what `unhex` told is told.
 use mathlib.Core.Path.{sym, ◌∙◌}
-use native.Mathlib.Omega.{arith}
-use borrow.Author.Rules.{rules}
-use Rattle.cases.proofs.Reading.{bytes-dash, bytes-hex, bytes_fit}
+use Rattle.cases.proofs.Reading.{bytes-dash, bytes-hex}
 use Rattle.cases.proofs.values.unhex_text.Goals as goal
 
 pub returns-then-same : goal.returns-then-same

@@ -1,10 +1,7 @@
 -- `check_outer` keeps its promise: a law for each way out.
 use native.Mathlib.Omega.{arith}
 use mathlib.Core.Path.{sym, ◌∙◌}
-use lib.Seq.{length-take-le}
-use borrow.Author.Tests.{not-true, not-false}
 use Rattle.framing.proofs.Outer.{outer_1, outer_16, outer-done}
-use borrow.Author.Rules.{rules}
 use Rattle.frame.proofs.opening.check_outer.Goals as goal
 
 pub returns-then-datagram-lt4 : goal.returns-then-datagram-lt4

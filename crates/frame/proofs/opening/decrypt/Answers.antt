@@ -1,6 +1,5 @@
 -- `decrypt` keeps its promise: whole blocks are not refused.
 use Rattle.cbc.proofs.Promise.{cbc_done}
-use borrow.Author.Rules.{rules}
 use Rattle.frame.proofs.opening.decrypt.Goals as goal
 
 pub returns : goal.returns

@@ -7,7 +7,6 @@ use Rattle.octets.proofs.Filled.{filled-part}
 use Rattle.cbc.specs.Cbc.{cbc_decrypt}
 use Rattle.cbc.proofs.Inverse.{decrypt-length}
 use Rattle.framing.proofs.InPlace.{body_in_place}
-use borrow.Author.Rules.{rules}
 use Rattle.frame.proofs.opening.decrypt_body.Goals as goal
 
 pub returns : goal.returns

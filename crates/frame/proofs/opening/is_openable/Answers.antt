@@ -2,7 +2,6 @@
 use native.Mathlib.Omega.{arith}
 use mathlib.Core.Path.{refl}
 use Rattle.framing.proofs.InPlace.{open_short, open_broken, open_whole}
-use borrow.Author.Rules.{rules}
 use Rattle.frame.proofs.opening.is_openable.Goals as goal
 
 pub returns-then-n-lt16 : goal.returns-then-n-lt16

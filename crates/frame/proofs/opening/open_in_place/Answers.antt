@@ -1,8 +1,6 @@
 -- `open_in_place` keeps its promise: a law for each way out.
 use mathlib.Core.Path.{sym, ◌∙◌}
-use borrow.Author.Tests.{not-true, not-false}
-use Rattle.framing.proofs.InPlace.{openable_inv, open_bare, open_none, open_done}
-use borrow.Author.Rules.{rules}
+use Rattle.framing.proofs.InPlace.{openable_inv, open_bare, open_done}
 use Rattle.frame.proofs.opening.open_in_place.Goals as goal
 
 pub returns-then-not-encrypts : goal.returns-then-not-encrypts

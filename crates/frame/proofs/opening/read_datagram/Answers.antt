@@ -5,7 +5,6 @@ use Rattle.refusal.specs.Outcome.{told}
 use Rattle.framing.proofs.Outer.{outer_inv}
 use Rattle.framing.proofs.InPlace.{outer-no, outer-on}
 use Rattle.frame.proofs.Promised.{reads}
-use borrow.Author.Rules.{rules}
 use Rattle.frame.proofs.opening.read_datagram.Goals as goal
 
 pub slice_bounds-read_payload-count : goal.slice_bounds-read_payload-count
@@ -23,5 +22,5 @@ pub returns-in-Done-clause-read_promise : goal.returns-in-Done-clause-read_promi
 returns-in-Done-clause-read_promise c =
     let r = c.read_payload.ensures.read_promise in
     reads _ _ _ _ _
-          (outer-on _ _ _ c.check_outer-o.ensures _ _ _ _ _ (ap told c.in-Done.is) refl
-          r.tells.answer r.tells.count r.buffer)
+    (outer-on _ _ _ c.check_outer-o.ensures _ _ _ _ _ (ap told c.in-Done.is) refl
+    r.tells.answer r.tells.count r.buffer)

@@ -1,7 +1,6 @@
 -- `read_payload` keeps its promise: only what was accepted is opened.
 use mathlib.Core.Path.{sym, ◌∙◌}
 use Rattle.frame.proofs.Parts.{read_opened, read-refused}
-use borrow.Author.Rules.{rules}
 use Rattle.frame.proofs.opening.read_payload.Goals as goal
 
 pub returns-then-is_accepted-clause-read_promise : goal.returns-then-is_accepted-clause-read_promise

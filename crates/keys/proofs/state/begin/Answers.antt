@@ -2,7 +2,6 @@
 use Rattle.sha1_block.specs.Block.{sha1_hash}
 use Rattle.sha1_block.proofs.Laws.{sha1_sized}
 use Rattle.running.proofs.Givens.{given-none}
-use borrow.Author.Rules.{rules}
 use Rattle.keys.proofs.state.begin.Goals as goal
 
 pub returns : goal.returns

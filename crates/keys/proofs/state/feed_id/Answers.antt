@@ -5,7 +5,6 @@ use mathlib.Core.Path.{◌≡◌, ap}
 use Rattle.sha1_block.specs.Block.{sha1_hash}
 use Rattle.sha1_block.proofs.Laws.{sha1_sized}
 use Rattle.running.proofs.Givens.{given-more}
-use borrow.Author.Rules.{rules}
 use Rattle.keys.proofs.state.feed_id.Goals as goal
 
 pub returns : goal.returns

@@ -1,7 +1,7 @@
 -- `feed_role` keeps its promise: two pieces, whose bytes are N by `role-text`.
 use lib.Seq.{length-take-le}
 use lib.ListN.{length, take}
-use mathlib.Core.Path.{◌≡◌, refl, sym}
+use mathlib.Core.Path.{◌≡◌, refl}
 use mathlib.Core.List.{[], ◌∷◌}
 use Prim.Native.Nat.{◌+◌, ◌≤◌}
 use native.Mathlib.Omega.{arith}

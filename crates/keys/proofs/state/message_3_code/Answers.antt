@@ -4,7 +4,6 @@ use native.Mathlib.Omega.{arith}
 use Rattle.sha1_block.specs.Block.{sha1_hash}
 use Rattle.sha1_block.proofs.Laws.{sha1_sized}
 use Rattle.running.proofs.Givens.{given-code}
-use borrow.Author.Rules.{rules}
 use Rattle.keys.proofs.state.message_3_code.Goals as goal
 
 pub returns : goal.returns

@@ -7,7 +7,6 @@ use native.Mathlib.Omega.{arith}
 use Rattle.sha1_block.specs.Block.{sha1_hash}
 use Rattle.sha1_block.proofs.Laws.{sha1_sized}
 use Rattle.keys.proofs.Running.{first-bytes}
-use borrow.Author.Rules.{rules}
 use Rattle.keys.proofs.state.message_4_value.Goals as goal
 
 pub returns : goal.returns

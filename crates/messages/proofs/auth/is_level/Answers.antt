@@ -7,5 +7,3 @@ returns-then-b-eq0 c = level-no _ c.if-b-eq0.true
 
 pub returns : goal.returns
 returns c = level-last _ c.if-b-eq0.false
-
-

@@ -1,10 +1,8 @@
 -- `check_head` keeps its promise: one law for each return.
 use native.Mathlib.Omega.{arith}
 use mathlib.Core.Path.{sym, ◌∙◌}
-use borrow.Author.Tests.{not-true, not-false}
 use Rattle.messages.proofs.Tests.{refuse_as}
 use Rattle.messages.proofs.Opening.{open_short, open_status, open_size, open_level, open_console, open_system, open_passed}
-use borrow.Author.Rules.{rules}
 use Rattle.messages.proofs.open_session.check_head.Goals as goal
 
 pub returns-then-message-lt2 : goal.returns-then-message-lt2

@@ -4,7 +4,6 @@ use native.Mathlib.Omega.{arith}
 use mathlib.Core.Path.{◌≡◌, ◌∙◌, ap}
 use Rattle.octets.specs.Place.{part}
 use Rattle.octets.proofs.Filled.{filled-part, put-part}
-use borrow.Author.Rules.{rules}
 use Rattle.messages.proofs.open_session.cut_block.Goals as goal
 
 pub returns : goal.returns
@@ -14,5 +13,3 @@ returns c =
     put-part 8 (a.at + 8 - a.at) a.message.now a.at _ _ c.put.ensures (omega arith)
     (ap (part a.message.now a.at) e) (omega arith)
     ∙ filled-part 8 a.message.now a.at (omega arith)
-
-

@@ -18,5 +18,3 @@ returns-in-3 c = known_at 0 _ 3 c.in-3.is refl
 
 pub returns-in_default : goal.returns-in_default
 returns-in_default c = known-not 0 _ (omega arith)
-
-

@@ -21,5 +21,3 @@ returns-in-4 c = known_at 1 _ 4 c.in-4.is refl
 
 pub returns-in_default : goal.returns-in_default
 returns-in_default c = known-not 1 _ (omega arith)
-
-

@@ -1,7 +1,6 @@
 -- `put_pieces` keeps its promise: each piece starts where the last one ended.
 use native.Mathlib.Omega.{arith}
 use Rattle.octets.proofs.Pieces.{four-pieces}
-use borrow.Author.Rules.{rules}
 use Rattle.messages.proofs.open_session.put_pieces.Goals as goal
 
 pub returns : goal.returns
@@ -13,5 +12,3 @@ returns c =
     c.put.ensures
     c.put-2.ensures
     c.put-3.ensures c.put-4.ensures
-
-

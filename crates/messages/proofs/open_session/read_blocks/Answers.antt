@@ -2,7 +2,6 @@
 use mathlib.Core.Path.{ap}
 use Rattle.messages.specs.Answers.{told_authentication, told_integrity, told_confidentiality}
 use Rattle.messages.proofs.Opening.{cut-answer, fields-first, fields-second, fields-third, fields-all}
-use borrow.Author.Rules.{rules}
 use Rattle.messages.proofs.open_session.read_blocks.Goals as goal
 
 pub returns-in-Refused : goal.returns-in-Refused

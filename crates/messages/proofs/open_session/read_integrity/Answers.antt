@@ -1,7 +1,6 @@
 -- `read_integrity` keeps its promise: a block of another type is refused.
 use mathlib.Core.Path.{refl}
 use Rattle.messages.proofs.Opening.{type-refused, type-right, type_wrong}
-use borrow.Author.Rules.{rules}
 use Rattle.messages.proofs.open_session.read_integrity.Goals as goal
 
 pub returns-in-Refused : goal.returns-in-Refused

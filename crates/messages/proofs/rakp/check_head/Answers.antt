@@ -3,7 +3,6 @@ use native.Mathlib.Omega.{arith}
 use mathlib.Core.Path.{sym, ◌∙◌}
 use Rattle.refusal.specs.Table.{number_of, value_of}
 use Rattle.messages.proofs.Tests.{refuse_as, checked-short, checked-status, checked_fixed, checked_zero, checked-passed}
-use borrow.Author.Rules.{rules}
 use Rattle.messages.proofs.rakp.check_head.Goals as goal
 
 pub returns-then-message-lt4 : goal.returns-then-message-lt4

@@ -1,11 +1,8 @@
 -- `is_listed` keeps its promise: what was passed was not the byte, so what is left decides.
 use Prim.Native.Nat.{◌≤◌, ◌-◌}
-use native.Mathlib.Omega.{arith}
-use mathlib.Core.Path.{◌≡◌, refl}
+use mathlib.Core.Path.{◌≡◌}
 use lib.ListN.{length, drop}
-use borrow.Author.Rules.{rules}
 use Rattle.refusal.specs.Table.{among}
-use Rattle.messages.proofs.Tests.{listed-yes, listed-on, listed-no}
 use Rattle.messages.proofs.rakp.is_listed.Given as goal
 
 abbrev pub invariant-loop-i : goal.invariant-loop-i

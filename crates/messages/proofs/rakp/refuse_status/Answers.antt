@@ -1,7 +1,6 @@
 -- `refuse_status` keeps its promise: named in every message, named here, or unnamed.
 use mathlib.Core.Path.{refl, sym, ◌∙◌}
 use Rattle.messages.proofs.Tests.{status-common, status_own, status-none}
-use borrow.Author.Rules.{rules}
 use Rattle.messages.proofs.rakp.refuse_status.Goals as goal
 
 pub returns-then-is_listed : goal.returns-then-is_listed
@@ -30,5 +29,3 @@ returns c =
           (sym c.if-is_listed-2.false ∙ is-listed2.ensures),
       refl,
     )
-
-

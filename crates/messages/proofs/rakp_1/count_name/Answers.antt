@@ -9,5 +9,3 @@ returns-then-u-gt16 c = len-over c.args.u (search rules) (omega arith)
 
 pub returns : goal.returns
 returns c = len-within c.args.u (search rules) (omega arith)
-
-

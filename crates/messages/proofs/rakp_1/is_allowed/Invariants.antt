@@ -1,11 +1,8 @@
 -- `is_allowed` keeps its promise: what was passed is allowed, so what is left decides.
 use Prim.Native.Nat.{◌≤◌, ◌-◌}
-use native.Mathlib.Omega.{arith}
-use mathlib.Core.Path.{◌≡◌, refl}
+use mathlib.Core.Path.{◌≡◌}
 use lib.ListN.{length, drop}
-use borrow.Author.Rules.{rules}
 use Rattle.messages.specs.Name.{allowed}
-use Rattle.messages.proofs.Names.{allowed-zero, allowed_high, allowed-on, allowed_all}
 use Rattle.messages.proofs.rakp_1.is_allowed.Given as goal
 
 abbrev pub invariant-loop-i : goal.invariant-loop-i

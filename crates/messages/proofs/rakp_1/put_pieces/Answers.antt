@@ -1,7 +1,7 @@
 -- `put_pieces` keeps its promise: each piece starts where the last one ended.
 use Prim.Native.Nat.{◌≤◌}
 use native.Mathlib.Omega.{arith}
-use mathlib.Core.Path.{◌≡◌, sym}
+use mathlib.Core.Path.{◌≡◌}
 use lib.ListN.{length, take}
 use lib.Seq.{length-take-le}
 use Rattle.octets.proofs.Pieces.{four-pieces}
@@ -19,5 +19,3 @@ returns c =
     c.put.ensures
     c.put-2.ensures
     c.put-3.ensures c.put-4.ensures
-
-

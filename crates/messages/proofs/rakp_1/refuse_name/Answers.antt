@@ -6,5 +6,3 @@ use Rattle.messages.proofs.rakp_1.refuse_name.Goals as goal
 pub returns : goal.returns
 unfolding stored
 returns c = record { answer = refl; name = refl }
-
-

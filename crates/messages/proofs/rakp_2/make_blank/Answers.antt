@@ -6,5 +6,3 @@ use Rattle.messages.proofs.rakp_2.make_blank.Goals as goal
 pub returns : goal.returns
 unfolding none2
 returns c = refl
-
-

@@ -1,10 +1,6 @@
 -- `check_pad` keeps its promise: the bytes passed so far are 1, 2, .. i. The measure is what is left of p.
-use borrow.Author.Rules.{rules}
-use Prim.Native.Nat.{ℕ, ◌+◌, ◌-◌, ◌≤◌, ◌<◌}
 use native.Mathlib.Omega.{arith}
-use mathlib.Core.Path.{◌≡◌, sym, ◌∙◌}
-use lib.ListN.{get_or}
-use borrow.Author.Count.{below_more}
+use mathlib.Core.Path.{◌∙◌}
 use Rattle.framing.proofs.Pads.{pads-right, pads_wrong}
 use Rattle.reader.proofs.body.check_pad.Goals as goal
 

@@ -1,11 +1,7 @@
 -- `check_pad` keeps its promise: the bytes passed so far are 1, 2, .. i. The measure is what is left of p.
-use borrow.Author.Rules.{rules}
 use Prim.Native.Nat.{ℕ, ◌+◌, ◌-◌, ◌≤◌, ◌<◌}
-use native.Mathlib.Omega.{arith}
-use mathlib.Core.Path.{◌≡◌, sym, ◌∙◌}
+use mathlib.Core.Path.{◌≡◌}
 use lib.ListN.{get_or}
-use borrow.Author.Count.{below_more}
-use Rattle.framing.proofs.Pads.{pads-right, pads_wrong}
 use Rattle.reader.proofs.body.check_pad.Given as goal
 
 abbrev pub invariant-loop-i : goal.invariant-loop-i

@@ -7,7 +7,6 @@ use Rattle.aes.specs.Schedule.{keys_of}
 use Rattle.aes.specs.Cipher.{inv_cipher}
 use Rattle.cbc.specs.Cbc.{xor_block}
 use Rattle.reader.proofs.Chained.{body-block}
-use borrow.Author.Rules.{rules}
 use Rattle.reader.proofs.body.decrypt_block.Goals as goal
 
 pub returns : goal.returns

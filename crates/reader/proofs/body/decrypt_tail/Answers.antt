@@ -1,8 +1,8 @@
 -- `decrypt_tail` keeps its promise: the first i bytes are those of the plain text. The measure is what is left of t.
 use borrow.Author.Rules.{rules}
-use Prim.Native.Nat.{ℕ, ◌+◌, ◌-◌, ◌%◌, ◌≤◌}
+use Prim.Native.Nat.{ℕ, ◌+◌, ◌-◌}
 use native.Mathlib.Omega.{arith}
-use mathlib.Core.Path.{◌≡◌, refl, sym, ◌∙◌, ap}
+use mathlib.Core.Path.{◌≡◌, ◌∙◌, ap}
 use lib.ListN.{length, take, drop}
 use Rattle.octets.specs.Place.{part}
 use Rattle.reader.specs.Uncbc.{uncbc}

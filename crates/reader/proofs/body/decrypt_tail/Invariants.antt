@@ -1,13 +1,10 @@
 -- `decrypt_tail` keeps its promise: the first i bytes are those of the plain text. The measure is what is left of t.
-use borrow.Author.Rules.{rules}
-use Prim.Native.Nat.{ℕ, ◌+◌, ◌-◌, ◌%◌, ◌≤◌}
-use native.Mathlib.Omega.{arith}
-use mathlib.Core.Path.{◌≡◌, refl, sym, ◌∙◌, ap}
+use Prim.Native.Nat.{◌-◌, ◌%◌, ◌≤◌}
+use mathlib.Core.Path.{◌≡◌}
 use lib.ListN.{length, take, drop}
 use Rattle.octets.specs.Place.{part}
 use Rattle.reader.specs.Uncbc.{uncbc}
 use Rattle.aes.specs.Schedule.{keys_of}
-use Rattle.framing.proofs.Blocks.{tail-turn}
 use Rattle.reader.proofs.body.decrypt_tail.Given as goal
 
 abbrev pub invariant-loop-i : goal.invariant-loop-i

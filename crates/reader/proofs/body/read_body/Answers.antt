@@ -1,7 +1,6 @@
 -- `read_body` keeps its promise: with AES the stage for it decides, without it the body is the payload.
 use mathlib.Core.Path.{sym, ◌∙◌}
 use Rattle.framing.proofs.Body.{payload-bare, payload-aes}
-use borrow.Author.Rules.{rules}
 use Rattle.reader.proofs.body.read_body.Goals as goal
 
 pub returns-then-encrypts : goal.returns-then-encrypts

@@ -1,7 +1,6 @@
 -- `read_encrypted` keeps its promise: a law for each way out.
 use native.Mathlib.Omega.{arith}
 use Rattle.framing.proofs.Body.{decrypted_1, decrypted_12, decrypted_10, decrypted-on}
-use borrow.Author.Rules.{rules}
 use Rattle.reader.proofs.body.read_encrypted.Goals as goal
 
 pub returns-then-body-lt16 : goal.returns-then-body-lt16

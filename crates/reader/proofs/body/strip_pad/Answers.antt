@@ -3,10 +3,8 @@ use Prim.Native.Nat.{◌+◌, ◌*◌, ◌/◌}
 use native.Mathlib.Omega.{arith}
 use mathlib.Core.Path.{sym, ◌∙◌, ap}
 use Rattle.aes.specs.Key.{key_expansion}
-use borrow.Author.Tests.{not-true, not-false}
 use Rattle.reader.proofs.Peek.{peek_size, peek_last, peek_tail}
 use Rattle.framing.proofs.Body.{unpad_10, unpad_11, unpad_done}
-use borrow.Author.Rules.{rules}
 use Rattle.reader.proofs.body.strip_pad.Goals as goal
 
 pub returns-then-n-p : goal.returns-then-n-p

@@ -1,5 +1,5 @@
 -- `absorb` keeps its promise: the last return is two pieces, which are their joined bytes.
-use Rattle.std.proofs.Common.{◌≡◌, ◌+◌, ◌-◌, ◌%◌, length, take, drop, sym, arith, length-take, length-take-le, rules}
+use Rattle.std.proofs.Common.{◌≡◌, ◌+◌, ◌-◌, ◌%◌, length, take, drop, arith, length-take, length-take-le, rules}
 use Rattle.sha1_block.specs.Block.{sha1_hash}
 use Rattle.sha1_hmac.specs.View.{state_of}
 use Rattle.running.proofs.Takes.{absorb_law, complete-none-waits}

@@ -1,5 +1,5 @@
 -- `absorb_blocks` keeps its promise: nothing waits, and the whole blocks are those of the piece.
-use Rattle.std.proofs.Common.{arith, rules}
+use Rattle.std.proofs.Common.{arith}
 use Rattle.sha1_block.specs.Block.{sha1_hash}
 use Rattle.sha1_hmac.specs.View.{state_of}
 use Rattle.running.proofs.Takes.{absorb_blocks_law}

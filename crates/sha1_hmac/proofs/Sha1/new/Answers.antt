@@ -2,7 +2,6 @@
 use Rattle.octets.specs.Place.{filled}
 use Rattle.running.specs.Hash.{runs}
 use Rattle.running.specs.Running.{after}
-use Rattle.std.proofs.Common.{rules}
 use Rattle.sha1_hmac.proofs.Sha1.new.Goals as goal
 
 pub returns : goal.returns

@@ -1,9 +1,7 @@
 -- `Sha1::update` keeps its promise: `fits_limit` decides.
-use Rattle.std.proofs.Common.{◌+◌, length, sym, refl, ap, ◌∙◌, arith, rules, leb-true}
-use borrow.Author.Tests.{not-true, not-false}
+use Rattle.std.proofs.Common.{sym, refl, ap, ◌∙◌}
 use Rattle.sha1_block.specs.declared.Chain.{Chain}
 use Rattle.running.specs.Running.{State}
-use Rattle.running.specs.Promise.{limit}
 use Rattle.running.proofs.Promised.{say-yes, say-no}
 use Rattle.sha1_hmac.proofs.Sha1.update.Goals as goal
 

@@ -1,5 +1,5 @@
 -- `accept` keeps its promise.
-use Rattle.std.proofs.Common.{refl, rules}
+use Rattle.std.proofs.Common.{refl}
 use Rattle.refusal.specs.Order.{need}
 use Rattle.running.specs.Mac.{mac_running}
 use Rattle.sha1_hmac.proofs.mac.accept.Goals as goal

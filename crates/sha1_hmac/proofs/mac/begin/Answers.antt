@@ -2,7 +2,6 @@
 use Rattle.sha1_block.specs.Block.{sha1_hash}
 use Rattle.sha1_block.proofs.Laws.{sha1_sized}
 use Rattle.running.proofs.Macs.{begin_law}
-use Rattle.std.proofs.Common.{rules}
 use Rattle.sha1_hmac.proofs.mac.begin.Goals as goal
 
 pub returns : goal.returns

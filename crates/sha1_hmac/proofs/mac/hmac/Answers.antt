@@ -1,10 +1,6 @@
 -- `hmac` keeps its promise: key and message at once are HMAC of them.
-use Rattle.std.proofs.Common.{leb, length, refl, rules}
-use borrow.Author.Tests.{lt-leb}
 use Rattle.sha1_block.specs.Block.{sha1_hash}
 use Rattle.sha1_block.proofs.Laws.{sha1_sized}
-use Rattle.running.specs.Promise.{limit}
-use Rattle.running.proofs.Promised.{as_no, first-no, second-no}
 use Rattle.running.proofs.Coded.{mac-one}
 use Rattle.sha1_hmac.proofs.mac.hmac.Goals as goal
 

@@ -1,9 +1,9 @@
 -- `make_key_block` keeps its promise: a short key stands as it is, a long one is hashed.
-use Rattle.std.proofs.Common.{◌≡◌, length, ap, ◌∙◌, arith, rules}
+use Rattle.std.proofs.Common.{arith}
 use Rattle.sha1_block.specs.Block.{sha1_hash}
 use Rattle.sha1_block.proofs.Laws.{sha1_sized}
 use Rattle.running.proofs.Promised.{yes}
-use Rattle.running.proofs.Macs.{digest_of-length, key_block-short, key_block-long}
+use Rattle.running.proofs.Macs.{key_block-short, key_block-long}
 use Rattle.sha1_hmac.proofs.mac.make_key_block.Goals as goal
 
 pub returns-then-key-le64 : goal.returns-then-key-le64

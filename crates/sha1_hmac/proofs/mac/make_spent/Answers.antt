@@ -1,6 +1,5 @@
 -- `make_spent` keeps its promise.
 use Rattle.running.specs.Mac.{spent}
-use Rattle.std.proofs.Common.{rules}
 use Rattle.sha1_hmac.proofs.mac.make_spent.Goals as goal
 
 pub returns : goal.returns

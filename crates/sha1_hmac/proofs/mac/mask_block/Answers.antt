@@ -1,7 +1,7 @@
 -- `mask_block` keeps its promise. Invariant: the first i bytes are xored.
-use Rattle.std.proofs.Common.{◌≡◌, ◌-◌, ◌≤◌, ◌++◌, length, take, drop, arith, rules}
+use Rattle.std.proofs.Common.{arith, rules}
 use Rattle.hmac.specs.Hmac.{xored}
-use Rattle.hmac.proofs.Masked.{mask_turn, mask_end}
+use Rattle.hmac.proofs.Masked.{mask_turn}
 use Rattle.sha1_hmac.proofs.mac.mask_block.Goals as goal
 
 pub loop-i-init : goal.loop-i-init

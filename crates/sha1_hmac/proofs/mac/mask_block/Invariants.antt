@@ -1,7 +1,6 @@
 -- `mask_block` keeps its promise. Invariant: the first i bytes are xored.
-use Rattle.std.proofs.Common.{◌≡◌, ◌-◌, ◌≤◌, ◌++◌, length, take, drop, arith, rules}
+use Rattle.std.proofs.Common.{◌≡◌, ◌-◌, ◌≤◌, ◌++◌, length, take, drop}
 use Rattle.hmac.specs.Hmac.{xored}
-use Rattle.hmac.proofs.Masked.{mask_turn, mask_end}
 use Rattle.sha1_hmac.proofs.mac.mask_block.Given as goal
 
 abbrev pub invariant-loop-i : goal.invariant-loop-i

@@ -1,11 +1,9 @@
 -- `packet_line` keeps its promise: the line that was made beside is added.
 use mathlib.Core.Path.{sym, ◌∙◌, ap}
 use lib.ListN.{take}
-use lib.Seq.{length-take-le}
 use Rattle.octets.proofs.Place.{begun-take}
 use Rattle.text.specs.Line.{line_of}
 use Rattle.text.proofs.Writing.{add_of}
-use borrow.Author.Rules.{rules}
 use Rattle.text.proofs.packet.packet_line.Goals as goal
 
 pub returns : goal.returns

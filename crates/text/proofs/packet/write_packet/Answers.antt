@@ -2,7 +2,6 @@
 use Prim.Native.Nat.{◌≤◌}
 use mathlib.Core.List.{[]}
 use native.Mathlib.Omega.{arith}
-use mathlib.Core.Path.{◌∙◌}
 use lib.Dec.{lit≤}
 use lib.ListN.{length}
 use Rattle.text.specs.Digits.{decimal, hex8}
@@ -10,7 +9,6 @@ use Rattle.text.specs.Line.{type_word, id_word, seq_word, payload_word, newline}
 use Rattle.text.proofs.Tens.{decimal-length}
 use Rattle.text.proofs.Writing.{length-hex8}
 use Rattle.text.proofs.Lines.{wrote_none, wrote-more, wrote-all}
-use borrow.Author.Rules.{rules}
 use Rattle.text.proofs.packet.write_packet.Goals as goal
 
 pub returns : goal.returns

@@ -1,11 +1,8 @@
 -- `is_hex` keeps its promise: the characters from i on are digits exactly where all are.
 use Prim.Native.Nat.{◌-◌, ◌≤◌}
-use mathlib.Core.Path.{◌≡◌, refl}
-use native.Mathlib.Omega.{arith}
+use mathlib.Core.Path.{◌≡◌}
 use lib.ListN.{length, drop}
-use borrow.Author.Rules.{rules}
 use Rattle.text.specs.Digits.{digits}
-use Rattle.text.proofs.Reading.{digits-none, digits-on, digits_end}
 use Rattle.text.proofs.read.is_hex.Given as goal
 
 abbrev pub invariant-loop-i : goal.invariant-loop-i

@@ -1,12 +1,8 @@
 -- `put_bytes` keeps its promise: after i turns the first i pairs stand as bytes.
-use Prim.Native.Nat.{ℕ, ◌+◌, ◌-◌, ◌*◌, ◌/◌, ◌≤◌}
-use mathlib.Core.List.{List}
-use mathlib.Core.Path.{◌≡◌, refl, sym, ◌∙◌, ap}
+use Prim.Native.Nat.{◌+◌, ◌*◌}
+use mathlib.Core.Path.{refl, sym, ◌∙◌}
 use native.Mathlib.Omega.{arith}
-use lib.ListN.{length, take, length-set}
-use lib.Seq.{take_all}
-use Rattle.octets.specs.Place.{pasted}
-use Rattle.text.specs.Digits.{pairs}
+use lib.ListN.{length-set}
 use Rattle.octets.proofs.Place.{pasted-none}
 use Rattle.text.proofs.Reading.{digits-at, length_pairs, pair_turn}
 use Rattle.text.proofs.read.put_bytes.Goals as goal

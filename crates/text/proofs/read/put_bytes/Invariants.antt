@@ -1,14 +1,9 @@
 -- `put_bytes` keeps its promise: after i turns the first i pairs stand as bytes.
-use Prim.Native.Nat.{ℕ, ◌+◌, ◌-◌, ◌*◌, ◌/◌, ◌≤◌}
-use mathlib.Core.List.{List}
-use mathlib.Core.Path.{◌≡◌, refl, sym, ◌∙◌, ap}
-use native.Mathlib.Omega.{arith}
-use lib.ListN.{length, take, length-set}
-use lib.Seq.{take_all}
+use Prim.Native.Nat.{◌-◌, ◌*◌, ◌/◌, ◌≤◌}
+use mathlib.Core.Path.{◌≡◌}
+use lib.ListN.{length, take}
 use Rattle.octets.specs.Place.{pasted}
 use Rattle.text.specs.Digits.{pairs}
-use Rattle.octets.proofs.Place.{pasted-none}
-use Rattle.text.proofs.Reading.{digits-at, length_pairs, pair_turn}
 use Rattle.text.proofs.read.put_bytes.Given as goal
 
 abbrev pub invariant-loop-i : goal.invariant-loop-i

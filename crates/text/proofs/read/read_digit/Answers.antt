@@ -2,7 +2,6 @@
 use mathlib.Core.Path.{sym}
 use native.Mathlib.Omega.{arith}
 use Rattle.text.proofs.Digits.{worth-below, worth_low, worth_mid, worth_high, worth-above}
-use borrow.Author.Rules.{rules}
 use Rattle.text.proofs.read.read_digit.Goals as goal
 
 pub returns-then-c-lt48 : goal.returns-then-c-lt48

@@ -1,10 +1,8 @@
 -- `read_number` keeps its promise: the number so far and what is left to read are the number of the whole.
-use Prim.Native.Nat.{ℕ, ◌+◌, ◌-◌, ◌*◌, ◌≤◌}
-use mathlib.Core.Path.{◌≡◌, sym, ◌∙◌, ap}
+use Prim.Native.Nat.{ℕ, ◌+◌, ◌*◌}
+use mathlib.Core.Path.{sym, ◌∙◌, ap}
 use native.Mathlib.Omega.{arith}
-use lib.ListN.{length, drop}
-use borrow.Author.Rules.{rules}
-use Rattle.text.specs.Promise.{number_in}
+use lib.ListN.{drop}
 use Rattle.text.proofs.Reading.{left, number-none, number_some, stop_none, stop_over, go_on, at_end, over, within}
 use Rattle.text.proofs.read.read_number.Goals as goal
 

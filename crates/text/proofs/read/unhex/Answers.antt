@@ -2,7 +2,6 @@
 use mathlib.Core.Path.{sym, ◌∙◌}
 use native.Mathlib.Omega.{arith}
 use Rattle.text.proofs.Reading.{hexed_odd, hexed-not, hexed-yes, unhex_bad, unhex_full, unhex-done, length_pairs}
-use borrow.Author.Rules.{rules}
 use Rattle.text.proofs.read.unhex.Goals as goal
 
 pub returns-then-s-ne0 : goal.returns-then-s-ne0

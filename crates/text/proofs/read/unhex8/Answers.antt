@@ -2,7 +2,6 @@
 use mathlib.Core.Path.{sym, ◌∙◌}
 use native.Mathlib.Omega.{arith}
 use Rattle.text.proofs.Reading.{number-most, word-not, word_value, word_bad}
-use borrow.Author.Rules.{rules}
 use Rattle.text.proofs.read.unhex8.Goals as goal
 
 pub returns-then-s-ne8 : goal.returns-then-s-ne8

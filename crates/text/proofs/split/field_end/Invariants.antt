@@ -1,10 +1,8 @@
 -- `field_end` keeps its promise: where it stands and what is left of the field are the same end at every turn.
 use Prim.Native.Nat.{◌+◌, ◌-◌, ◌≤◌}
-use mathlib.Core.Path.{◌≡◌, refl}
-use native.Mathlib.Omega.{arith}
+use mathlib.Core.Path.{◌≡◌}
 use lib.ListN.{length, drop}
 use Rattle.text.specs.Fields.{upto}
-use Rattle.text.proofs.Cuts.{upto-here, upto-more, upto-past}
 use Rattle.text.proofs.split.field_end.Given as goal
 
 abbrev pub invariant-loop-at : goal.invariant-loop-at

@@ -1,10 +1,6 @@
 -- `fields` keeps its promise: the separators that were passed and the fields of the rest are all the fields.
-use Prim.Native.Nat.{◌+◌, ◌-◌, ◌≤◌}
-use mathlib.Core.Path.{◌≡◌}
 use native.Mathlib.Omega.{arith}
-use lib.ListN.{length, drop}
-use Rattle.text.specs.Fields.{cut}
-use Rattle.text.proofs.Cuts.{cut-here, cut-more, cut-past}
+use Rattle.text.proofs.Cuts.{cut-here, cut-more}
 use Rattle.text.proofs.split.fields.Goals as goal
 use Rattle.text.proofs.split.fields.Goals.{then-line-at, else-line-at}
 
@@ -13,12 +9,12 @@ loop-at-preserved c =
     let l = c.loop-at in
     let a = c.args in
     elim c.if-line-at.branch [
-      then-line-at w ↦ (
+      | then-line-at w ↦ (
         omega arith,
         omega arith,
         omega (arith, cut-here a.separator a.line.now l.at (omega arith) w.if-line-at.true, l.invariant.2),
       )
-    | else-line-at w ↦ (
+      | else-line-at w ↦ (
         omega arith,
         omega arith,
         omega (arith, cut-more a.separator a.line.now l.at (omega arith) w.if-line-at.false, l.invariant.2),

@@ -1,11 +1,8 @@
 -- `fields` keeps its promise: the separators that were passed and the fields of the rest are all the fields.
 use Prim.Native.Nat.{◌+◌, ◌-◌, ◌≤◌}
-use mathlib.Core.Logic.{⊎_elim}
 use mathlib.Core.Path.{◌≡◌}
-use native.Mathlib.Omega.{arith}
 use lib.ListN.{length, drop}
 use Rattle.text.specs.Fields.{cut}
-use Rattle.text.proofs.Cuts.{cut-here, cut-more, cut-past}
 use Rattle.text.proofs.split.fields.Given as goal
 
 abbrev pub invariant-loop-at : goal.invariant-loop-at

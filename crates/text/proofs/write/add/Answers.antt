@@ -3,8 +3,7 @@ use mathlib.Core.Path.{sym, ◌∙◌}
 use native.Mathlib.Omega.{arith}
 use lib.ListN.{length}
 use Rattle.octets.proofs.Place.{put-done}
-use Rattle.text.proofs.Writing.{room_of_lem, add-yes, add-no}
-use borrow.Author.Rules.{rules}
+use Rattle.text.proofs.Writing.{room_of_lem, add-yes}
 use Rattle.text.proofs.write.add.Goals as goal
 
 pub overflow_add-result : goal.overflow_add-result

@@ -4,7 +4,6 @@ use mathlib.Core.Path.{sym, ◌∙◌}
 use native.Mathlib.Omega.{arith}
 use lib.ListN.{length}
 use Rattle.text.proofs.Writing.{room_of_lem, hex-yes, hex-no}
-use borrow.Author.Rules.{rules}
 use Rattle.text.proofs.write.hex.Goals as goal
 
 pub put_hex-requires : goal.put_hex-requires

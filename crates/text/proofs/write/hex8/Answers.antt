@@ -1,7 +1,6 @@
 -- `hex8` keeps its promise: the eight digits are added.
 use Rattle.text.specs.Digits.{hex8}
 use Rattle.text.proofs.Writing.{add_of, eight}
-use borrow.Author.Rules.{rules}
 use Rattle.text.proofs.write.hex8.Goals as goal
 
 pub returns : goal.returns

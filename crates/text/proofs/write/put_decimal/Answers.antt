@@ -1,9 +1,9 @@
 -- `put_decimal` keeps its promise: what is left of the number and the digits that stand already are the whole of it.
 use Prim.Native.Nat.{ℕ, ◌-◌, ◌<◌, ◌≤◌}
 use mathlib.Core.List.{List, ◌++◌, append-nil}
-use mathlib.Core.Path.{◌≡◌, sym, ◌∙◌, ap}
+use mathlib.Core.Path.{sym, ◌∙◌, ap}
 use native.Mathlib.Omega.{arith}
-use lib.ListN.{length, drop, length-set, drop_of_length-le}
+use lib.ListN.{length, length-set, drop_of_length-le}
 use Rattle.text.specs.Digits.{decimal}
 use Rattle.text.proofs.Tens.{decimal-length, decimal_some}
 use Rattle.text.proofs.Writing.{digit-turn, digit-last, digits-left}

@@ -1,12 +1,7 @@
 -- `put_hex` keeps its promise: after i turns the first i bytes stand in hex.
-use Prim.Native.Nat.{ℕ, ◌-◌, ◌≤◌}
-use mathlib.Core.List.{List}
-use mathlib.Core.Path.{◌≡◌, refl, sym, ◌∙◌, ap}
+use mathlib.Core.Path.{refl, sym}
 use native.Mathlib.Omega.{arith}
-use lib.ListN.{length, take, length-set}
-use lib.Seq.{take_all}
-use Rattle.octets.specs.Place.{pasted}
-use Rattle.text.specs.Digits.{hex}
+use lib.ListN.{length-set}
 use Rattle.text.proofs.Writing.{hex-turn}
 use Rattle.octets.proofs.Place.{pasted-none}
 use Rattle.text.proofs.write.put_hex.Goals as goal

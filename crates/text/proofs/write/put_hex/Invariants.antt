@@ -1,14 +1,9 @@
 -- `put_hex` keeps its promise: after i turns the first i bytes stand in hex.
-use Prim.Native.Nat.{ℕ, ◌-◌, ◌≤◌}
-use mathlib.Core.List.{List}
-use mathlib.Core.Path.{◌≡◌, refl, sym, ◌∙◌, ap}
-use native.Mathlib.Omega.{arith}
-use lib.ListN.{length, take, length-set}
-use lib.Seq.{take_all}
+use Prim.Native.Nat.{◌-◌, ◌≤◌}
+use mathlib.Core.Path.{◌≡◌}
+use lib.ListN.{length, take}
 use Rattle.octets.specs.Place.{pasted}
 use Rattle.text.specs.Digits.{hex}
-use Rattle.text.proofs.Writing.{hex-turn}
-use Rattle.octets.proofs.Place.{pasted-none}
 use Rattle.text.proofs.write.put_hex.Given as goal
 
 abbrev pub invariant-loop-i : goal.invariant-loop-i

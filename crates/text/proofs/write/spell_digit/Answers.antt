@@ -1,7 +1,6 @@
 -- `spell_digit` keeps its promise.
 use mathlib.Core.Path.{sym}
 use Rattle.text.proofs.Digits.{digit_low, digit_high}
-use borrow.Author.Rules.{rules}
 use Rattle.text.proofs.write.spell_digit.Goals as goal
 
 pub returns-then-d-lt10 : goal.returns-then-d-lt10

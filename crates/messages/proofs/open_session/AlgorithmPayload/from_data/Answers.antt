@@ -2,7 +2,6 @@
 use native.Mathlib.Omega.{arith}
 use mathlib.Core.Path.{refl}
 use Rattle.messages.proofs.Blocks.{block-value, block_type, block-known}
-use borrow.Author.Rules.{rules}
 use Rattle.messages.proofs.open_session.AlgorithmPayload.from_data.Goals as goal
 
 pub returns-then-block-ne8 : goal.returns-then-block-ne8

@@ -1,7 +1,6 @@
 -- `OpenSessionRequest::write_data` keeps its promise: its pieces are the request's.
 use native.Mathlib.Omega.{arith}
 use Rattle.messages.proofs.Opening.{request-no, request-yes}
-use borrow.Author.Rules.{rules}
 use Rattle.messages.proofs.open_session.OpenSessionRequest.write_data.Goals as goal
 
 pub returns-then-out-lt-REQUEST_LEN : goal.returns-then-out-lt-REQUEST_LEN

@@ -1,6 +1,5 @@
 -- `OpenSessionResponse::from_data` keeps its promise: the tests, then the blocks.
 use Rattle.messages.proofs.Opening.{response-size, response-no, response-on}
-use borrow.Author.Rules.{rules}
 use Rattle.messages.proofs.open_session.OpenSessionResponse.from_data.Goals as goal
 
 pub read_blocks-requires : goal.read_blocks-requires

@@ -1,6 +1,5 @@
 -- `RakpMessage2::from_data` keeps its promise: the tests, then the fields.
 use Rattle.messages.proofs.Reading.{test-passed, checked-size, read2_no, read2_yes}
-use borrow.Author.Rules.{rules}
 use Rattle.messages.proofs.rakp_2.RakpMessage2.from_data.Goals as goal
 
 pub read_fields-requires : goal.read_fields-requires

@@ -1,10 +1,8 @@
 -- `RakpMessage3::decline` keeps its promise: one put writes the whole message.
 use mathlib.Core.Path.{refl}
-use borrow.Author.Tests.{not-true, not-false}
 use Rattle.octets.proofs.Place.{put_of}
 use Rattle.messages.specs.Rakp.{declined3}
 use Rattle.messages.proofs.Writing.{one-no, one-yes}
-use borrow.Author.Rules.{rules}
 use Rattle.messages.proofs.rakp_3.RakpMessage3.decline.Goals as goal
 
 pub returns-then-not-put : goal.returns-then-not-put

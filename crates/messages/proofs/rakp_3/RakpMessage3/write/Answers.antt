@@ -7,7 +7,6 @@ use Rattle.octets.proofs.Place.{put_of}
 use Rattle.messages.specs.Rakp.{message3}
 use Rattle.octets.proofs.Pieces.{put_first, put_next}
 use Rattle.messages.proofs.Writing.{write-no, write-yes}
-use borrow.Author.Rules.{rules}
 use Rattle.messages.proofs.rakp_3.RakpMessage3.write.Goals as goal
 
 pub returns-then-out-lt-HEAD : goal.returns-then-out-lt-HEAD
@@ -34,5 +33,3 @@ returns c =
     let s₁ = put_first d h _ _ (put_of d 0 make-head.result h _ _ make-head.ensures put.ensures) (omega arith) in
     write-yes (message3 a.self a.code.now) d _ _ (omega arith) (omega arith)
     (put_next h d a.code.now _ 8 _ _ s₁ refl (omega arith) put2.ensures)
-
-

@@ -2,7 +2,6 @@
 use native.Mathlib.Omega.{arith}
 use Rattle.messages.specs.Rakp.{fields4}
 use Rattle.messages.proofs.Reading.{test-passed, checked-size, read4_no, read4_yes}
-use borrow.Author.Rules.{rules}
 use Rattle.messages.proofs.rakp_4.RakpMessage4.from_data.Goals as goal
 
 pub bounds-message-0 : goal.bounds-message-0

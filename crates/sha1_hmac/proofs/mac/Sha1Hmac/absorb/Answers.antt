@@ -3,7 +3,6 @@ use Rattle.sha1_block.specs.Block.{sha1_hash}
 use Rattle.sha1_block.proofs.Laws.{sha1_sized}
 use Rattle.sha1_hmac.specs.View.{mac_state_of}
 use Rattle.running.proofs.Macs.{mac_absorb_law}
-use Rattle.std.proofs.Common.{rules}
 use Rattle.sha1_hmac.proofs.mac.Sha1Hmac.absorb.Goals as goal
 
 pub returns : goal.returns

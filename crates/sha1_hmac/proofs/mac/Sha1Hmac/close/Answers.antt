@@ -1,5 +1,5 @@
 -- `Sha1Hmac::close` keeps its promise: the inner code goes into the outer hash's last block.
-use Rattle.std.proofs.Common.{refl, rules}
+use Rattle.std.proofs.Common.{refl}
 use Rattle.sha1_block.specs.Block.{sha1_hash}
 use Rattle.sha1_block.proofs.Laws.{sha1_sized}
 use Rattle.sha1_hmac.specs.View.{mac_state_of}

@@ -72,13 +72,7 @@ fn write_kind(kind: u8, at: usize, out: &mut [u8]) -> Written {
 
 // How many of the bytes are not AA.
 fn count_changed(s: &[u8]) -> usize {
-    let mut k: usize = 0;
-    for b in s {
-        if *b != 0xaa {
-            k += 1;
-        }
-    }
-    k
+    s.iter().filter(|b| **b != 0xaa).count()
 }
 
 fn try_write(kind: u8, at: usize, out: &mut [u8], n: usize) -> Written {

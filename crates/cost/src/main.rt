@@ -2,12 +2,12 @@
 // reading, `o` for reading once or `w` for writing; a digit, 0, 1 or 2 for a payload of 7, 64 or 1,024 bytes; then a byte for each turn.
 #![tactic(auto)]
 
-ghost use Rattle.std.specs.Prelude.{◌≡◌, ◌≤◌, length};
+ghost use Rattle.std.specs.Prelude.{◌≡◌, ◌≤◌, IfOk, length};
 
 use arrivals::Arrivals;
 use frame::{Confidentiality, Integrity, PayloadType, Read, Reading, SubState, Written};
 use keys::Keys;
-use libc::STDOUT_FILENO;
+use std::io;
 
 // What the turns found: the lengths of all packets or payloads, and the last byte of each, added up; where packets are read once, with
 // the two numbers of each record. Every turn is in it, so that the compiler can leave none out.
@@ -213,7 +213,7 @@ fn spell_digit(n: usize) -> u8 {
 }
 
 // A number in eight digits, so that writing it costs the same whatever it is.
-fn print(label: &[u8], n: usize) {
+fn print(rt: &impl Print, label: &[u8], n: usize) -> io::Result<()> {
     let high = n / 10000;
     let digits = [
         spell_digit(high / 1000),
@@ -225,58 +225,74 @@ fn print(label: &[u8], n: usize) {
         spell_digit(n / 10),
         spell_digit(n),
     ];
-    io::write_all(STDOUT_FILENO, label);
-    io::write_all(STDOUT_FILENO, &digits);
+    rt.write_all(label)?;
+    rt.write_all(&digits)
 }
 
-fn tell(verb: &[u8], turns: usize, f: Found) {
-    io::write_all(STDOUT_FILENO, verb);
-    print(b" turns ", turns);
-    print(b" lengths ", f.lengths);
-    print(b" ends ", f.ends);
-    io::write_all(STDOUT_FILENO, b"\n");
+fn tell(rt: &impl Print, verb: &[u8], turns: usize, f: Found) -> io::Result<()> {
+    rt.write_all(verb)?;
+    print(rt, b" turns ", turns)?;
+    print(rt, b" lengths ", f.lengths)?;
+    print(rt, b" ends ", f.ends)?;
+    rt.write_all(b"\n")
 }
 
 // The turns for a letter and a payload; false for another letter.
-fn run_letter(letter: u8, payload: &[u8], turns: usize) -> bool {
+fn run_letter(rt: &impl Print, letter: u8, payload: &[u8], turns: usize) -> io::Result<bool> {
     match letter {
         b'r' => {
-            tell(b"read", turns, run_read(payload, turns, false));
-            true
+            tell(rt, b"read", turns, run_read(payload, turns, false))?;
+            Ok(true)
         }
         b'o' => {
-            tell(b"read once", turns, run_read(payload, turns, true));
-            true
+            tell(rt, b"read once", turns, run_read(payload, turns, true))?;
+            Ok(true)
         }
         b'w' => {
-            tell(b"write", turns, run_write(payload, turns));
-            true
+            tell(rt, b"write", turns, run_write(payload, turns))?;
+            Ok(true)
         }
-        _ => false,
+        _ => Ok(false),
     }
 }
 
 // Whether the input says what to do, and then does it.
-fn run(given: &[u8], payload: &[u8]) -> bool {
+fn run(rt: &impl Print, given: &[u8], payload: &[u8]) -> io::Result<bool> {
     if given.len() < 2 {
-        return false;
+        return Ok(false);
     }
     let n = find_size(given[1]);
     if n == 0 {
-        return false;
+        return Ok(false);
     }
     if payload.len() < n {
-        return false;
+        return Ok(false);
     }
-    run_letter(given[0], &payload[..n], given.len() - 2)
+    run_letter(rt, given[0], &payload[..n], given.len() - 2)
 }
 
-fn main() {
-    let mut input = io::buffer();
-    let n = io::read_full(0, &mut input);
+// Goes on after a short read, until the input ends or there is no more room, and answers how many bytes were read.
+fn read_full(input: &mut impl io::Read, room: &mut [u8]) -> io::Result<usize>
+    ensures { IfOk result (λ n. n ≤ length room.new) }
+{
+    let mut done = 0;
+    while done < room.len() {
+        let n = input.read(&mut room[done..])?;
+        if n == 0 {
+            break;
+        }
+        done += n;
+    }
+    Ok(done)
+}
+
+fn main(rt: HostRuntime) -> io::Result<()> {
+    let mut input = [0u8; 4096];
+    let n = read_full(&mut rt.stdin(), &mut input)?;
     let mut payload = make_room();
     fill(&mut payload);
-    if !run(&input[..n], &payload) {
-        io::write_all(STDOUT_FILENO, b"bad input\n");
+    if !run(&rt, &input[..n], &payload)? {
+        rt.write_all(b"bad input\n")?;
     }
+    Ok(())
 }

@@ -6,10 +6,10 @@
 use arrivals::Arrivals;
 use frame::{PayloadType, Reading, SubState, Written};
 use keys::Keys;
-use libc::STDOUT_FILENO;
 use messages::open_session::RequestedPrivilege;
 use refusal::Refusal;
 use session::{Asked, Lookup, Record};
+use std::io;
 use text::Cursor;
 
 const OPEN_RESPONSE: [u8; 36] = [
@@ -57,38 +57,38 @@ const NAME: [u8; 16] = *b"nightdesk\x00\x00\x00\x00\x00\x00\x00";
 const NAME_LEN: usize = 9;
 
 // The first `n` bytes of what was written, where there are as many.
-fn print_first(out: &[u8], n: usize) {
+fn print_first(rt: &impl Print, out: &[u8], n: usize) -> io::Result<()> {
     if n <= out.len() {
-        io::write_all(STDOUT_FILENO, &out[..n]);
+        rt.write_all(&out[..n])?;
     }
+    Ok(())
 }
 
-fn print_line(label: &[u8], s: &[u8]) {
+fn print_line(rt: &impl Print, label: &[u8], s: &[u8]) -> io::Result<()> {
     let mut out = [0u8; 512];
     let start = Cursor { at: 0, full: false };
     let a = text::add(&mut out, start, label);
     let b = text::hex(&mut out, a, s);
     let c = text::add(&mut out, b, b"\n");
-    print_first(&out, c.at);
+    print_first(rt, &out, c.at)
 }
 
 // A line of the message of `n` bytes at the start of `out`, where there are as many.
-fn print_message(label: &[u8], n: usize, out: &[u8]) {
+fn print_message(rt: &impl Print, label: &[u8], n: usize, out: &[u8]) -> io::Result<()> {
     if n <= out.len() {
-        print_line(label, &out[..n]);
+        print_line(rt, label, &out[..n])?;
     }
+    Ok(())
 }
 
 // A line of a refusal's number.
-fn print_refusal(label: &[u8], why: Refusal) {
-    io::write_all(STDOUT_FILENO, label);
-    io::write_all(STDOUT_FILENO, b"refused ");
-    io::print_decimal(STDOUT_FILENO, why.number() as u64);
-    io::write_all(STDOUT_FILENO, b"\n");
+fn print_refusal(rt: &impl Print, label: &[u8], why: Refusal) -> io::Result<()> {
+    rt.write_all(label)?;
+    println!(rt; "refused {}", why.number())
 }
 
 // The console's four steps.
-fn open_session() -> Record {
+fn open_session(rt: &impl Print) -> io::Result<Record> {
     let mut out = [0u8; 64];
     let kg = [0x77u8; 20];
     let asked = Asked {
@@ -97,13 +97,13 @@ fn open_session() -> Record {
         lookup: Lookup::NameOnly,
     };
     let a = session::begin(asked, b"nightdesk", &mut out);
-    print_message(b"request ", a.len, &out);
+    print_message(rt, b"request ", a.len, &out)?;
     let b = session::open_response(a.state, &OPEN_RESPONSE, RM, &mut out);
-    print_message(b"message 1 ", b.len, &out);
+    print_message(rt, b"message 1 ", b.len, &out)?;
     let c = session::message_2(b.state, &kg, b"renderfarm", &MESSAGE_2, &mut out);
-    print_message(b"message 3 ", c.len, &out);
+    print_message(rt, b"message 3 ", c.len, &out)?;
     let d = session::message_4(c.state, &MESSAGE_4);
-    d.state
+    Ok(d.state)
 }
 
 // The system's session, from its own SIK.
@@ -119,7 +119,7 @@ fn make_system_session() -> SubState {
 }
 
 // What the system reads of a datagram.
-fn read_back(datagram: &mut [u8]) {
+fn read_back(rt: &impl Print, datagram: &mut [u8]) -> io::Result<()> {
     let session = make_system_session();
     let r = frame::read_datagram(session, datagram);
     let c = session.confidentiality;
@@ -134,11 +134,13 @@ fn read_back(datagram: &mut [u8]) {
     {
         if 4 <= datagram.len() {
             print_line(
+                rt,
                 b"read back ",
                 frame::payload(&datagram[4..], encrypted, len),
-            );
+            )?;
         }
     }
+    Ok(())
 }
 
 // An open session and the record of what arrived in it, which the console holds together.
@@ -157,16 +159,23 @@ fn hold(session: SubState) -> Held {
 }
 
 // A line of the payload that was read out of a datagram.
-fn print_payload(label: &[u8], session: SubState, datagram: &[u8], len: usize) {
+fn print_payload(
+    rt: &impl Print,
+    label: &[u8],
+    session: SubState,
+    datagram: &[u8],
+    len: usize,
+) -> io::Result<()> {
     let c = session.confidentiality;
     let encrypted = frame::encrypts(c);
     if 4 <= datagram.len() {
-        print_line(label, frame::payload(&datagram[4..], encrypted, len));
+        print_line(rt, label, frame::payload(&datagram[4..], encrypted, len))?;
     }
+    Ok(())
 }
 
 // What the console reads of a datagram that arrives; it then holds the session with the record after it.
-fn read_once(label: &[u8], held: Held, datagram: &mut [u8]) -> Held {
+fn read_once(rt: &impl Print, label: &[u8], held: Held, datagram: &mut [u8]) -> io::Result<Held> {
     let session = held.session;
     let o = once::read_datagram(session, held.arrivals, datagram);
     let r = o.read;
@@ -177,32 +186,33 @@ fn read_once(label: &[u8], held: Held, datagram: &mut [u8]) -> Held {
             session_id: _,
             session_sequence_number: _,
             len,
-        } => print_payload(label, session, datagram, len),
-        Reading::Refused(why) => print_refusal(label, why),
+        } => print_payload(rt, label, session, datagram, len)?,
+        Reading::Refused(why) => print_refusal(rt, label, why)?,
     }
     let arrivals = o.arrivals;
-    Held { session, arrivals }
+    Ok(Held { session, arrivals })
 }
 
 // The system's answer arrives at the console, and the same bytes come again.
-fn read_answer_twice(console: Held) {
+fn read_answer_twice(rt: &impl Print, console: Held) -> io::Result<()> {
     let mut first = ANSWER;
     let mut again = ANSWER;
-    let console = read_once(b"answer ", console, &mut first);
-    read_once(b"answer again ", console, &mut again);
+    let console = read_once(rt, b"answer ", console, &mut first)?;
+    read_once(rt, b"answer again ", console, &mut again)?;
+    Ok(())
 }
 
-fn print_keys(k: Keys) {
+fn print_keys(rt: &impl Print, k: Keys) -> io::Result<()> {
     let k1 = k.k1;
-    print_line(b"k1 ", &k1);
-    print_line(b"aes ", &k.aes_key());
+    print_line(rt, b"k1 ", &k1)?;
+    print_line(rt, b"aes ", &k.aes_key())
 }
 
-fn main() {
-    let made = session::sub_state(open_session());
+fn main(rt: HostRuntime) -> io::Result<()> {
+    let made = session::sub_state(open_session(&rt)?);
     let console = hold(made.session);
     let s = console.session;
-    print_keys(s.keys);
+    print_keys(&rt, s.keys)?;
     let mut out = [0u8; 64];
     let w = frame::write_datagram(
         s,
@@ -214,10 +224,10 @@ fn main() {
         &mut out,
     );
     if let Written::Length(n) = w {
-        print_message(b"datagram ", n, &out);
+        print_message(&rt, b"datagram ", n, &out)?;
         if n == 64 {
-            read_back(&mut out);
+            read_back(&rt, &mut out)?;
         }
     }
-    read_answer_twice(console);
+    read_answer_twice(&rt, console)
 }

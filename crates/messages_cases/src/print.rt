@@ -2,8 +2,7 @@
 ghost use Rattle.std.specs.Prelude.{◌≤◌};
 
 use crate::{readers, writers};
-
-pub const OUT: i32 = 1;
+use std::io;
 
 // The number of a refusal, 0 for accepted, and a value that goes with the answer.
 #[derive(Clone, Copy)]
@@ -38,23 +37,20 @@ fn stand_together(a: Told, i: u64, b: Told, n: u64) -> bool {
     a.value == b.value
 }
 
-fn show_group(from: u64, to: u64, t: Told) {
-    io::write_all(OUT, b" ");
-    io::print_decimal(OUT, from);
+fn show_group(rt: &impl Print, from: u64, to: u64, t: Told) -> io::Result<()> {
+    print!(rt; " {from}")?;
     if from != to {
-        io::write_all(OUT, b"-");
-        io::print_decimal(OUT, to);
+        print!(rt; "-{to}")?;
     }
-    io::write_all(OUT, b"=");
-    io::print_decimal(OUT, t.number);
+    print!(rt; "={}", t.number)?;
     let m = choose_mode(t, to);
     if m == 1 {
-        io::write_all(OUT, b"v");
+        print!(rt; "v")?;
     }
     if m == 2 {
-        io::write_all(OUT, b":");
-        io::print_decimal(OUT, t.value);
+        print!(rt; ":{}", t.value)?;
     }
+    Ok(())
 }
 
 fn try_case(kind: u8, at: usize, n: usize) -> Told {
@@ -66,49 +62,45 @@ fn try_case(kind: u8, at: usize, n: usize) -> Told {
 }
 
 // The cases 0 to last of a kind.
-pub fn show_line(label: &[u8], kind: u8, at: usize, last: usize)
+pub fn show_line(rt: &impl Print, label: &[u8], kind: u8, at: usize, last: usize) -> io::Result<()>
     requires { last ≤ 255 }
 {
-    io::write_all(OUT, label);
-    io::write_all(OUT, b":");
+    rt.write_all(label)?;
+    print!(rt; ":")?;
     let mut from: usize = 0;
     let mut before = try_case(kind, at, 0);
-    let mut n: usize = 0;
-    while n < last {
+    for n in 0..last {
         let t = try_case(kind, at, n + 1);
         if !stand_together(before, n as u64, t, (n + 1) as u64) {
-            show_group(from as u64, n as u64, before);
+            show_group(rt, from as u64, n as u64, before)?;
             from = n + 1;
         }
         before = t;
-        n += 1;
     }
-    show_group(from as u64, last as u64, before);
-    io::write_all(OUT, b"\n");
+    show_group(rt, from as u64, last as u64, before)?;
+    println!(rt)
 }
 
-fn show_byte(b: u8) {
-    io::print_hex(OUT, b as u64, 2);
+fn show_byte(rt: &impl Print, b: u8) -> io::Result<()> {
+    print!(rt; "{b:02x}")
 }
 
 // Bytes in hex.
-pub fn show_hex(s: &[u8]) {
-    let mut i: usize = 0;
-    while i < s.len() {
-        show_byte(s[i]);
-        i += 1;
+pub fn show_hex(rt: &impl Print, s: &[u8]) -> io::Result<()> {
+    for b in s {
+        show_byte(rt, *b)?;
     }
+    Ok(())
 }
 
-pub fn show_hex_16(word: &[u8], s: [u8; 16]) {
-    io::write_all(OUT, word);
-    show_hex(&s);
+pub fn show_hex_16(rt: &impl Print, word: &[u8], s: [u8; 16]) -> io::Result<()> {
+    rt.write_all(word)?;
+    show_hex(rt, &s)
 }
 
 // A word, a space and a number, after a space.
-pub fn show_number(word: &[u8], n: u64) {
-    io::write_all(OUT, b" ");
-    io::write_all(OUT, word);
-    io::write_all(OUT, b" ");
-    io::print_decimal(OUT, n);
+pub fn show_number(rt: &impl Print, word: &[u8], n: u64) -> io::Result<()> {
+    rt.write_all(b" ")?;
+    rt.write_all(word)?;
+    print!(rt; " {n}")
 }

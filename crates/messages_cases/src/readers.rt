@@ -2,7 +2,7 @@
 ghost use Rattle.std.specs.Prelude.{◌≤◌};
 
 use crate::print;
-use crate::print::{OUT, Told};
+use crate::print::Told;
 use messages::open_session::{
     AlgorithmPayload, BlockAnswer, OpenSessionAnswer, OpenSessionResponse,
 };
@@ -10,6 +10,7 @@ use messages::rakp_1::Username;
 use messages::rakp_2::RakpMessage2;
 use messages::rakp_4::{RakpAnswer4, RakpMessage4};
 use refusal::{Outcome, Refusal};
+use std::io;
 
 // What is read; of a whole message a byte is varied.
 pub const OPEN: u8 = 0;
@@ -171,71 +172,71 @@ pub fn try_case(kind: u8, at: usize, n: usize) -> Told {
 }
 
 // The open response of the Rust's test.
-pub fn show_open_case() {
+pub fn show_open_case(rt: &impl Print) -> io::Result<()> {
     let message =
         b"\x00\x00\x04\x00\xa4\xa3\xa2\x0a\xe0\x34\x71\x4a\x00\x00\x00\x08\x01\x00\x00\x00\x01\x00\x00\x08\x01\x00\x00\x00\x02\x00\x00\x08\x00\x00\x00\x00";
-    io::write_all(OUT, b"open response:");
+    print!(rt; "open response:")?;
     match OpenSessionResponse::from_data(message) {
-        OpenSessionAnswer::Refused(r) => print::show_number(b"refused", r.number() as u64),
-        OpenSessionAnswer::Response(m) => show_response(m),
+        OpenSessionAnswer::Refused(r) => print::show_number(rt, b"refused", r.number() as u64)?,
+        OpenSessionAnswer::Response(m) => show_response(rt, m)?,
     }
-    io::write_all(OUT, b"\n");
+    println!(rt)
 }
 
-fn show_response(m: OpenSessionResponse) {
+fn show_response(rt: &impl Print, m: OpenSessionResponse) -> io::Result<()> {
     let a = m.authentication;
     let i = m.integrity;
     let c = m.confidentiality;
-    print::show_number(b"tag", m.tag as u64);
-    print::show_number(b"level", m.level as u64);
-    print::show_number(b"console", m.console as u64);
-    print::show_number(b"system", m.system as u64);
-    print::show_number(b"authentication", a.code() as u64);
-    print::show_number(b"integrity", i.code() as u64);
-    print::show_number(b"confidentiality", c.code() as u64);
+    print::show_number(rt, b"tag", m.tag as u64)?;
+    print::show_number(rt, b"level", m.level as u64)?;
+    print::show_number(rt, b"console", m.console as u64)?;
+    print::show_number(rt, b"system", m.system as u64)?;
+    print::show_number(rt, b"authentication", a.code() as u64)?;
+    print::show_number(rt, b"integrity", i.code() as u64)?;
+    print::show_number(rt, b"confidentiality", c.code() as u64)
 }
 
 // Message 2 of the Rust's test.
-pub fn show_message_2_case() {
+pub fn show_message_2_case(rt: &impl Print) -> io::Result<()> {
     let message =
         b"\x00\x00\x00\x00\xa4\xa3\xa2\xa0\xe8\x2c\x00\x00\x42\x72\x00\x00\x59\x18\x00\x00\
         \xac\x04\x00\x00\x00\x00\x00\x00\x00\x00\x00\x00\x00\x00\x00\x00\x00\x00\x00\x00\
         \x6b\x61\xba\x25\xc8\x22\x4e\x32\x78\x63\x62\x6b\x30\x7c\x8d\xc8\x15\x22\x90\x91";
-    show_2(b"message 2:", message);
-    show_2(b"message 2, other bytes:", &BYTES_2);
-    show_2(b"message 2, refused:", &BYTES_2[..39]);
-    show_4(b"message 4:", &BYTES_4[..20]);
+    show_2(rt, b"message 2:", message)?;
+    show_2(rt, b"message 2, other bytes:", &BYTES_2)?;
+    show_2(rt, b"message 2, refused:", &BYTES_2[..39])?;
+    show_4(rt, b"message 4:", &BYTES_4[..20])
 }
 
-fn show_2(label: &[u8], message: &[u8]) {
-    io::write_all(OUT, label);
+fn show_2(rt: &impl Print, label: &[u8], message: &[u8]) -> io::Result<()> {
+    rt.write_all(label)?;
     let read = RakpMessage2::from_data(message);
     let m = read.message;
     let random = m.random;
     let guid = m.guid;
     let place = m.code;
-    print::show_number(b"tag", m.tag as u64);
-    print::show_number(b"console", m.console as u64);
-    print::show_hex_16(b" random ", random);
-    print::show_hex_16(b" guid ", guid);
-    print::show_number(b"code at", place.at as u64);
-    print::show_number(b"of", place.len as u64);
-    io::write_all(OUT, b"\n");
+    print::show_number(rt, b"tag", m.tag as u64)?;
+    print::show_number(rt, b"console", m.console as u64)?;
+    print::show_hex_16(rt, b" random ", random)?;
+    print::show_hex_16(rt, b" guid ", guid)?;
+    print::show_number(rt, b"code at", place.at as u64)?;
+    print::show_number(rt, b"of", place.len as u64)?;
+    println!(rt)
 }
 
-fn show_4(label: &[u8], message: &[u8]) {
-    io::write_all(OUT, label);
+fn show_4(rt: &impl Print, label: &[u8], message: &[u8]) -> io::Result<()> {
+    rt.write_all(label)?;
     match RakpMessage4::from_data(message) {
-        RakpAnswer4::Refused(r) => print::show_number(b"refused", r.number() as u64),
-        RakpAnswer4::Message(m) => show_fields_4(m),
+        RakpAnswer4::Refused(r) => print::show_number(rt, b"refused", r.number() as u64)?,
+        RakpAnswer4::Message(m) => show_fields_4(rt, m)?,
     }
-    io::write_all(OUT, b"\n");
+    println!(rt)
 }
 
-fn show_fields_4(m: RakpMessage4) {
+fn show_fields_4(rt: &impl Print, m: RakpMessage4) -> io::Result<()> {
     let place = m.value;
-    print::show_number(b"tag", m.tag as u64);
-    print::show_number(b"id", m.id as u64);
-    print::show_number(b"value at", place.at as u64);
-    print::show_number(b"of", place.len as u64);
+    print::show_number(rt, b"tag", m.tag as u64)?;
+    print::show_number(rt, b"id", m.id as u64)?;
+    print::show_number(rt, b"value at", place.at as u64)?;
+    print::show_number(rt, b"of", place.len as u64)
 }

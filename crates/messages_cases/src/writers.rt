@@ -1,11 +1,12 @@
 // Cases for the writers: each writes into the start of 64 bytes AA, of which the first ones are lent.
 use crate::print;
-use crate::print::{OUT, Told};
+use crate::print::Told;
 use messages::auth::{AuthenticationAlgorithm, ConfidentialityAlgorithm, IntegrityAlgorithm};
 use messages::open_session::{OpenSessionRequest, RequestedPrivilege};
 use messages::rakp::Written;
 use messages::rakp_1::{RakpMessage1, Username};
 use messages::rakp_3::RakpMessage3;
+use std::io;
 
 pub const REQUEST: u8 = 16;
 
@@ -71,15 +72,7 @@ fn write_kind(kind: u8, at: usize, out: &mut [u8]) -> Written {
 
 // How many of the bytes are not AA.
 fn count_changed(s: &[u8]) -> usize {
-    let mut k: usize = 0;
-    let mut i: usize = 0;
-    while i < s.len() {
-        if s[i] != 0xaa {
-            k += 1;
-        }
-        i += 1;
-    }
-    k
+    s.iter().filter(|b| **b != 0xaa).count()
 }
 
 fn try_write(kind: u8, at: usize, out: &mut [u8], n: usize) -> Written {
@@ -108,20 +101,20 @@ pub fn try_case(kind: u8, at: usize, n: usize) -> Told {
 }
 
 // The whole of the 64 bytes after a message was written.
-fn show_written(label: &[u8], kind: u8, at: usize) {
+fn show_written(rt: &impl Print, label: &[u8], kind: u8, at: usize) -> io::Result<()> {
     let mut out = [0xaau8; 64];
     write_kind(kind, at, &mut out);
-    io::write_all(OUT, label);
-    print::show_hex(&out);
-    io::write_all(OUT, b"\n");
+    rt.write_all(label)?;
+    print::show_hex(rt, &out)?;
+    println!(rt)
 }
 
-pub fn show_cases() {
-    show_written(b"open request, level 3: ", REQUEST, 1);
-    show_written(b"open request, no level: ", REQUEST, 0);
-    show_written(b"message 1: ", MESSAGE_1, 4);
-    show_written(b"message 1, name of 16: ", MESSAGE_1, 16);
-    show_written(b"message 1, name length 17: ", MESSAGE_1, 17);
-    show_written(b"message 3: ", MESSAGE_3, 20);
-    show_written(b"message 3, declining: ", DECLINED, 0);
+pub fn show_cases(rt: &impl Print) -> io::Result<()> {
+    show_written(rt, b"open request, level 3: ", REQUEST, 1)?;
+    show_written(rt, b"open request, no level: ", REQUEST, 0)?;
+    show_written(rt, b"message 1: ", MESSAGE_1, 4)?;
+    show_written(rt, b"message 1, name of 16: ", MESSAGE_1, 16)?;
+    show_written(rt, b"message 1, name length 17: ", MESSAGE_1, 17)?;
+    show_written(rt, b"message 3: ", MESSAGE_3, 20)?;
+    show_written(rt, b"message 3, declining: ", DECLINED, 0)
 }

@@ -6,8 +6,8 @@
 use arrivals::Arrivals;
 use frame::{Confidentiality, Integrity, PayloadType, Reading, SubState, Written};
 use keys::Keys;
-use libc::STDOUT_FILENO;
 use refusal::Refusal;
+use std::io;
 
 // An open session, and beside it the record of what arrived in it.
 #[derive(Clone, Copy)]
@@ -30,40 +30,33 @@ fn open_session() -> Held {
 }
 
 // `number N: `.
-fn print_number(n: u32) {
-    io::write_all(STDOUT_FILENO, b"number ");
-    io::print_decimal(STDOUT_FILENO, n as u64);
-    io::write_all(STDOUT_FILENO, b": ");
+fn print_number(rt: &impl Print, n: u32) -> io::Result<()> {
+    print!(rt; "number {n}: ")
 }
 
 // `, C of the last 32`, and the line's end.
-fn print_count(arrivals: Arrivals) {
-    io::write_all(STDOUT_FILENO, b", ");
-    io::print_decimal(STDOUT_FILENO, arrivals.count() as u64);
-    io::write_all(STDOUT_FILENO, b" of the last 32\n");
+fn print_count(rt: &impl Print, arrivals: Arrivals) -> io::Result<()> {
+    println!(rt; ", {} of the last 32", arrivals.count())
 }
 
 // `taken: TEXT`, the text out of the datagram that was opened.
-fn print_taken(session: SubState, datagram: &[u8], len: usize) {
+fn print_taken(rt: &impl Print, session: SubState, datagram: &[u8], len: usize) -> io::Result<()> {
     let c = session.confidentiality;
     let encrypted = frame::encrypts(c);
-    io::write_all(STDOUT_FILENO, b"taken: ");
+    print!(rt; "taken: ")?;
     if 4 <= datagram.len() {
-        io::write_all(
-            STDOUT_FILENO,
-            frame::payload(&datagram[4..], encrypted, len),
-        );
+        rt.write_all(frame::payload(&datagram[4..], encrypted, len))?;
     }
+    Ok(())
 }
 
 // `refused R`, and whether the datagram is as it was found.
-fn print_refused(why: Refusal, found: &[u8], left: &[u8]) {
-    io::write_all(STDOUT_FILENO, b"refused ");
-    io::print_decimal(STDOUT_FILENO, why.number() as u64);
+fn print_refused(rt: &impl Print, why: Refusal, found: &[u8], left: &[u8]) -> io::Result<()> {
+    print!(rt; "refused {}", why.number())?;
     if octets::same(found, left) {
-        io::write_all(STDOUT_FILENO, b", as found");
+        print!(rt; ", as found")
     } else {
-        io::write_all(STDOUT_FILENO, b", changed");
+        print!(rt; ", changed")
     }
 }
 
@@ -105,12 +98,12 @@ fn lend_first(s: &mut [u8], n: usize) -> &mut [u8] {
 }
 
 // A datagram arrives: the console reads it out of a copy, tells what became of it, and holds the record after it.
-fn read_once(held: Held, d: Datagram) -> Held {
+fn read_once(rt: &impl Print, held: Held, d: Datagram) -> io::Result<Held> {
     let found = d.bytes;
     let mut left = d.bytes;
     let session = held.session;
     let o = once::read_datagram(session, held.arrivals, lend_first(&mut left, d.len));
-    print_number(d.number);
+    print_number(rt, d.number)?;
     let r = o.read;
     let answer = r.answer;
     match answer {
@@ -119,37 +112,38 @@ fn read_once(held: Held, d: Datagram) -> Held {
             session_id: _,
             session_sequence_number: _,
             len,
-        } => print_taken(session, &left, len),
-        Reading::Refused(why) => print_refused(why, &found, &left),
+        } => print_taken(rt, session, &left, len)?,
+        Reading::Refused(why) => print_refused(rt, why, &found, &left)?,
     }
     let arrivals = o.arrivals;
-    print_count(arrivals);
-    Held { session, arrivals }
+    print_count(rt, arrivals)?;
+    Ok(Held { session, arrivals })
 }
 
 // A text that the machine sends, and that arrives once.
-fn send(held: Held, number: u32, text: &[u8]) -> Held {
+fn send(rt: &impl Print, held: Held, number: u32, text: &[u8]) -> io::Result<Held> {
     let session = held.session;
-    read_once(held, write(session, number, text))
+    read_once(rt, held, write(session, number, text))
 }
 
 // The same, and the same datagram arrives again.
-fn send_twice(held: Held, number: u32, text: &[u8]) -> Held {
+fn send_twice(rt: &impl Print, held: Held, number: u32, text: &[u8]) -> io::Result<Held> {
     let session = held.session;
     let d = write(session, number, text);
-    let held = read_once(held, d);
-    read_once(held, d)
+    let held = read_once(rt, held, d)?;
+    read_once(rt, held, d)
 }
 
-fn main() {
+fn main(rt: HostRuntime) -> io::Result<()> {
     let held = open_session();
-    let held = send(held, 1, b"power on");
-    let held = send_twice(held, 2, b"power down");
-    let held = send(held, 4, b"fan ok");
-    let held = send_twice(held, 3, b"power up");
-    let held = send(held, 40, b"power cycle");
-    let held = send(held, 2, b"power down");
-    let held = send(held, 8, b"late event");
-    let held = send(held, 9, b"late but in time");
-    send(held, 0, b"unnumbered");
+    let held = send(&rt, held, 1, b"power on")?;
+    let held = send_twice(&rt, held, 2, b"power down")?;
+    let held = send(&rt, held, 4, b"fan ok")?;
+    let held = send_twice(&rt, held, 3, b"power up")?;
+    let held = send(&rt, held, 40, b"power cycle")?;
+    let held = send(&rt, held, 2, b"power down")?;
+    let held = send(&rt, held, 8, b"late event")?;
+    let held = send(&rt, held, 9, b"late but in time")?;
+    send(&rt, held, 0, b"unnumbered")?;
+    Ok(())
 }

@@ -2,10 +2,11 @@
 // section 8).
 #![tactic(auto)]
 
-ghost use Rattle.std.specs.Prelude.{◌≡◌, ◌+◌, length};
+ghost use Rattle.std.specs.Prelude.{◌≡◌, ◌+◌, ◌≤◌, IfOk, length};
 ghost use Rattle.report.specs.Told.{longest};
 
-use libc::{STDIN_FILENO, STDOUT_FILENO};
+use std::io;
+use std::io::Read;
 use text::Cursor;
 
 // One byte more than the longest packet, so that a longer input shows as one.
@@ -17,19 +18,34 @@ fn make_room() -> [u8; ROOM]
     [0u8; ROOM]
 }
 
-// The first `n` bytes of the line, where there are as many.
-fn print_first(line: &[u8], n: usize) {
-    if n <= line.len() {
-        io::write_all(STDOUT_FILENO, &line[0..n]);
+// Goes on after a short read, until the input ends or there is no more room, and answers how many bytes were read.
+fn read_full(input: &mut impl Read, room: &mut [u8]) -> io::Result<usize>
+    ensures { IfOk result (λ n. n ≤ length room.new) }
+{
+    let mut done = 0;
+    while done < room.len() {
+        let n = input.read(&mut room[done..])?;
+        if n == 0 {
+            break;
+        }
+        done += n;
     }
+    Ok(done)
 }
 
-fn main() {
+// The first `n` bytes of the line, where there are as many.
+fn print_first(rt: &impl Print, line: &[u8], n: usize) -> io::Result<()> {
+    if n <= line.len() {
+        rt.write_all(&line[0..n])?;
+    }
+    Ok(())
+}
+
+fn main(rt: HostRuntime) -> io::Result<()> {
     let mut packet = make_room();
-    // Goes on after a short read, until the input ends or there is no more room.
-    let n = io::read_full(STDIN_FILENO, &mut packet);
+    let n = read_full(&mut rt.stdin(), &mut packet)?;
     let mut line = [0u8; 64];
     let start = Cursor { at: 0, full: false };
     let c = report::tell(&packet[..n], &mut line, start);
-    print_first(&line, c.at);
+    print_first(&rt, &line, c.at)
 }

@@ -179,7 +179,7 @@ fn sum_zeros(line: &[u8], coded: bool) -> Sum {
     let m = cases::read_decimal(line, 2, 65536);
     let bad = n.bad | m.bad | (m.n == 0);
     let count = if bad { 0 } else { n.n };
-    let zero = io::large_buffer();
+    let zero = [0u8; 65536];
     let hashed = if coded {
         code_zeros(&zero, count, m.n)
     } else {

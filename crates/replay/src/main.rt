@@ -20,6 +20,8 @@ mod words;
 mod writers;
 
 use cases::{Input, pick_part};
+use std::io;
+use std::io::Read;
 use text::Cursor;
 
 #[derive(Clone, Copy)]
@@ -31,35 +33,35 @@ struct State {
 }
 
 // What still waits after the output was written out, if as much as `most` waited.
-fn flush(out: &[u8], at: usize, most: usize) -> usize {
+fn flush(rt: &impl Print, out: &[u8], at: usize, most: usize) -> io::Result<usize> {
     if at < most {
-        return at;
+        return Ok(at);
     }
-    io::write_all(1, pick_part(out, 0, at));
-    0
+    rt.write_all(pick_part(out, 0, at))?;
+    Ok(0)
 }
 
 // What waits is written out before much has gathered, and before a long line, whose answer may need all the room.
-fn make_room(s: State, out: &[u8]) -> State {
+fn make_room(rt: &impl Print, s: State, out: &[u8]) -> io::Result<State> {
     let i = s.input;
     let c = i.line;
     let most = if c.at < 65536 { 65536 } else { 0 };
-    State {
+    Ok(State {
         input: i,
-        at: flush(out, s.at, most),
+        at: flush(rt, out, s.at, most)?,
         going: s.going,
-    }
+    })
 }
 
 // The next piece of the input once one has been gone through, or its end: the last line may lack its newline.
-fn refill(s: State, piece: &mut [u8]) -> State {
+fn refill(s: State, from: &mut impl Read, piece: &mut [u8]) -> io::Result<State> {
     let i = s.input;
     if i.from < i.to {
-        return s;
+        return Ok(s);
     }
-    let n = io::count(libc::read(0, piece), piece);
+    let n = from.read(piece)?;
     let c = i.line;
-    State {
+    Ok(State {
         input: Input {
             from: 0,
             to: n,
@@ -68,7 +70,7 @@ fn refill(s: State, piece: &mut [u8]) -> State {
         },
         at: s.at,
         going: n != 0,
-    }
+    })
 }
 
 // What the piece has of the line.
@@ -103,22 +105,31 @@ fn reply(s: State, line: &[u8], bytes: &mut [u8], room: &mut [u8], out: &mut [u8
 }
 
 fn turn(
+    rt: &impl Print,
+    from: &mut impl Read,
     s: State,
     piece: &mut [u8],
     line: &mut [u8],
     bytes: &mut [u8],
     room: &mut [u8],
     out: &mut [u8],
-) -> State {
-    let s = refill(s, piece);
+) -> io::Result<State> {
+    let s = refill(s, from, piece)?;
     let s = gather(s, piece, line);
-    let s = make_room(s, out);
-    reply(s, line, bytes, room, out)
+    let s = make_room(rt, s, out)?;
+    Ok(reply(s, line, bytes, room, out))
 }
 
-// A proved loop has to end, and nothing says that an input does: so the turns are counted down from a number that no run
-// uses up.
-fn run(piece: &mut [u8], line: &mut [u8], bytes: &mut [u8], room: &mut [u8], out: &mut [u8]) {
+// A proved loop has to end, and nothing says that an input does: so the turns are counted to a number that no run uses up.
+fn run(
+    rt: &impl Print,
+    from: &mut impl Read,
+    piece: &mut [u8],
+    line: &mut [u8],
+    bytes: &mut [u8],
+    room: &mut [u8],
+    out: &mut [u8],
+) -> io::Result<()> {
     let mut s = State {
         input: Input {
             from: 0,
@@ -129,15 +140,14 @@ fn run(piece: &mut [u8], line: &mut [u8], bytes: &mut [u8], room: &mut [u8], out
         at: 0,
         going: true,
     };
-    let mut turns = u64::MAX;
-    while turns > 0 {
+    for _ in 0..u64::MAX {
         if !s.going {
-            flush(out, s.at, 0);
-            return;
+            break;
         }
-        s = turn(s, piece, line, bytes, room, out);
-        turns -= 1;
+        s = turn(rt, from, s, piece, line, bytes, room, out)?;
     }
+    flush(rt, out, s.at, 0)?;
+    Ok(())
 }
 
 // The longest line that is taken, and more than the largest room.
@@ -154,11 +164,19 @@ fn largest() -> [u8; 2097152]
     [0u8; 2097152]
 }
 
-fn main() {
-    let mut piece = io::large_buffer();
+fn main(rt: HostRuntime) -> io::Result<()> {
+    let mut piece = [0u8; 65536];
     let mut line = large();
     let mut bytes = large();
     let mut room = large();
     let mut out = largest();
-    run(&mut piece, &mut line, &mut bytes, &mut room, &mut out);
+    run(
+        &rt,
+        &mut rt.stdin(),
+        &mut piece,
+        &mut line,
+        &mut bytes,
+        &mut room,
+        &mut out,
+    )
 }

@@ -5,35 +5,25 @@ ghost use Rattle.std.specs.Prelude.{◌≤◌, ◌<◌, ◌≡◌, length};
 
 use refusal::Outcome;
 use sha1_hmac::{Hashed, LIMIT, Sha1, Sha1Hmac};
+use std::io;
 use text::Cursor;
 
-const OUT: i32 = 1;
-
 // The digest in hex, a space, the blocks in decimal, a newline.
-fn tell(h: Hashed) {
+fn tell(rt: &impl Print, h: Hashed) -> io::Result<()> {
     let digest = h.digest;
     let mut line = [0u8; 40];
     text::hex(&mut line, Cursor { at: 0, full: false }, &digest);
-    io::write_all(OUT, &line);
-    io::write_all(OUT, b" ");
-    io::print_decimal(OUT, h.blocks as u64);
-    io::write_all(OUT, b"\n");
+    rt.write_all(&line)?;
+    println!(rt; " {}", h.blocks)
 }
 
 // What was answered, and the blocks told with it.
-fn tell_answer(answer: Outcome, blocks: u32) {
+fn tell_answer(rt: &impl Print, answer: Outcome, blocks: u32) -> io::Result<()> {
     match answer {
-        Outcome::Done => {
-            io::write_all(OUT, b"taken ");
-        }
-        Outcome::Refused(r) => {
-            io::write_all(OUT, b"refused ");
-            io::print_decimal(OUT, r.number() as u64);
-            io::write_all(OUT, b" ");
-        }
+        Outcome::Done => print!(rt; "taken ")?,
+        Outcome::Refused(r) => print!(rt; "refused {} ", r.number())?,
     }
-    io::print_decimal(OUT, blocks as u64);
-    io::write_all(OUT, b"\n");
+    println!(rt; "{blocks}")
 }
 
 // The next piece's length: from 1 to 997, never more than what is left.
@@ -81,26 +71,26 @@ fn feed_mac(mac: Sha1Hmac, a: &[u8], count: usize) -> Sha1Hmac
     m
 }
 
-fn main() {
+fn main(rt: HostRuntime) -> io::Result<()> {
     let a = [97u8; 997];
     let h = feed_hash(Sha1::new(), &a, 1000000);
-    tell(h.finalize());
+    tell(&rt, h.finalize())?;
     let h = feed_hash(h, &a, LIMIT - 1000000);
-    tell(h.finalize());
+    tell(&rt, h.finalize())?;
     let past = h.update(b"a");
     let answer = past.answer;
-    tell_answer(answer, past.blocks);
+    tell_answer(&rt, answer, past.blocks)?;
     let h = past.hash;
-    tell(h.finalize());
+    tell(&rt, h.finalize())?;
     let begun = Sha1Hmac::new(b"Jefe");
     let answer = begun.answer;
-    tell_answer(answer, begun.blocks);
+    tell_answer(&rt, answer, begun.blocks)?;
     let mac = begun.mac;
     let m = feed_mac(mac, &a, LIMIT);
-    tell(m.finalize());
+    tell(&rt, m.finalize())?;
     let past = m.feed(b"a");
     let answer = past.answer;
-    tell_answer(answer, past.blocks);
+    tell_answer(&rt, answer, past.blocks)?;
     let m = past.mac;
-    tell(m.finalize());
+    tell(&rt, m.finalize())
 }

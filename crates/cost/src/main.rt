@@ -35,10 +35,8 @@ fn make_room() -> [u8; 1100]
 
 // The bytes 0, 1, 2 and on, and again from 0 after 255.
 fn fill(s: &mut [u8]) {
-    let mut i: usize = 0;
-    while i < s.len() {
+    for i in 0..s.len() {
         s[i] = (i % 256) as u8;
-        i += 1;
     }
 }
 

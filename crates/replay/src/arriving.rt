@@ -102,11 +102,9 @@ fn take_numbers(line: &[u8], n: usize, out: &mut [u8], c: Cursor) -> Row {
         bad: n == 1,
     };
     let mut at: usize = 0;
-    let mut k: usize = 1;
-    while k < n {
+    for k in 1..n {
         at = cases::pass_field(line, at, b' ');
         s = take_number(line, at, k - 1, s, out);
-        k += 1;
     }
     s
 }

@@ -91,11 +91,9 @@ fn feed_pieces(line: &[u8], n: usize, buf: &mut [u8]) -> Pieces {
         bad: false,
     };
     let mut at: usize = 0;
-    let mut k: usize = 1;
-    while k < n {
+    for _ in 1..n {
         at = cases::pass_field(line, at, b' ');
         s = feed_piece(line, at, s, buf);
-        k += 1;
     }
     s
 }

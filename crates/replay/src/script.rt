@@ -162,11 +162,9 @@ fn take_calls(script: &[u8], buf: &mut [u8], room: &mut [u8], out: &mut [u8], c:
     };
     let n = text::fields(script, b';');
     let mut at: usize = 0;
-    let mut k: usize = 0;
-    while k < n {
+    for k in 0..n {
         s = take_call(script, at, k, s, buf, room, out);
         at = cases::pass_field(script, at, b';');
-        k += 1;
     }
     s
 }

@@ -139,10 +139,8 @@ fn take_steps(line: &[u8], buf: &mut [u8], out: &mut [u8], c: Cursor) -> Stage {
         over: false,
         bad: false,
     };
-    let mut k: usize = 0;
-    while k < 4 {
+    for k in 0..4 {
         s = take_step(line, k, s, buf, out);
-        k += 1;
     }
     s
 }

@@ -1,0 +1,9 @@
+-- Every read puts a byte at least, so fewer are left to fill; what is filled lies within the room.
+use Rattle.std.proofs.Common.{length, ◌-◌, ◌≤◌}
+use Rattle.cost.proofs.read_full.Given as goal
+
+abbrev pub invariant-loop-done : goal.invariant-loop-done
+invariant-loop-done g l = l.done ≤ length l.room
+
+abbrev pub decreases-loop-done : goal.decreases-loop-done
+decreases-loop-done g l = length l.initial.room - l.done

@@ -25,7 +25,7 @@ module _ (s : List ℕ) (h : Block s) where
   shift_unshift = tab_self s 16 h.size
 
   unsub_sub : unsub_bytes (sub_bytes s) ≡ s
-  unsub_sub = sbox.unsub_sub_bytes s h.size h.small
+  unsub_sub = sbox.unsub-sub_bytes s h.size h.small
 
   sub_unsub : sub_bytes (unsub_bytes s) ≡ s
   sub_unsub = sbox.sub-unsub_bytes s h.size h.small
@@ -84,9 +84,9 @@ module _ (w : List ℕ) (hw : Bytes w) where
       ∙ ap (unrounds w n) (unmix_mix_columns x hx)
       ∙ back n s h
 
-  pub inv_cipher_lem : (b : List ℕ) → length b ≡ 16 → Bytes b → inv_cipher w (cipher w b) ≡ b
+  pub inv_cipher-cipher : (b : List ℕ) → length b ≡ 16 → Bytes b → inv_cipher w (cipher w b) ≡ b
   unfolding cipher inv_cipher
-  inv_cipher_lem b size small =
+  inv_cipher-cipher b size small =
       let hb : Block b = record { size = size; small = small } in
       let s : List ℕ = add_round_key w 0 b in
       let hs : Block s = add-block w hw 0 b small in
@@ -111,9 +111,9 @@ module _ (w : List ℕ) (hw : Bytes w) where
       ∙ ap shift_rows (sub_unsub _ (unshift_block t h.small))
       ∙ shift_unshift t h
 
-  pub cipher_inv : (b : List ℕ) → length b ≡ 16 → Bytes b → cipher w (inv_cipher w b) ≡ b
+  pub cipher-inv_cipher : (b : List ℕ) → length b ≡ 16 → Bytes b → cipher w (inv_cipher w b) ≡ b
   unfolding cipher inv_cipher
-  cipher_inv b size small =
+  cipher-inv_cipher b size small =
       let hb : Block b = record { size = size; small = small } in
       let t : List ℕ = add_round_key w 10 b in
       let ht : Block t = add-block w hw 10 b small in

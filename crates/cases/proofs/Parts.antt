@@ -13,9 +13,9 @@ module _ (l : List ℕ) (a e : ℕ) where
     unfolding part_of
     part_there = rw (le-leb a e h, le-leb e (length l) k)
 
-    pub part-at : part_at l a e ≡ a
+    pub part_at-inside : part_at l a e ≡ a
     unfolding part_at
-    part-at = rw (le-leb a e h, le-leb e (length l) k)
+    part_at-inside = rw (le-leb a e h, le-leb e (length l) k)
 
   module _ (h : a ≤ e) (k : length l < e) where
     pub part-past : [] ≡ part_of l a e

@@ -85,8 +85,8 @@ module _ (d : List ℕ) (a : ℕ) (s : List ℕ) where
       fit false f g q = let z : ◌≡◌ {A = ℕ} 0 1 = cc in absurd (omega arith)
 
 -- a promise kept for a text is kept for one that is equal
-pub bytes_of : (d : List ℕ) (a : ℕ) (s t : List ℕ) (r : Span) (x : List ℕ) → s ≡ t → BytesPromise d a s r x → BytesPromise d a t r x
-bytes_of d a s t r x e p = rw e at p
+pub bytes_promise-along : (d : List ℕ) (a : ℕ) (s t : List ℕ) (r : Span) (x : List ℕ) → s ≡ t → BytesPromise d a s r x → BytesPromise d a t r x
+bytes_promise-along d a s t r x e p = rw e at p
 
 -- exactly n bytes were read where they end at n
 module _ (n : ℕ) (h : 0 < n) where

@@ -14,7 +14,7 @@ use Rattle.octets.proofs.Order.{lt_or_le}
 use Rattle.text.specs.Fields.{upto, cut}
 use Rattle.text.proofs.Cuts.{upto_take, walk_on, walk_end}
 use Rattle.cases.specs.Fields.{part_of, part_at, past_of, behind, behind_at, field_of, place_of}
-use Rattle.cases.proofs.Parts.{part_there, part-at}
+use Rattle.cases.proofs.Parts.{part_there, part_at-inside}
 use Rattle.octets.proofs.Order.{cond_true, cond_false}
 
 -- a field is no longer than what it begins
@@ -69,9 +69,9 @@ behind-next c i a r l e f =
     )
 
 -- where that begins
-behind-at : (c k : ℕ) (l : List ℕ) (a : ℕ) → a ≤ length l → drop a l ≡ behind c k l → behind_at c k l ≡ a
+behind_at-here : (c k : ℕ) (l : List ℕ) (a : ℕ) → a ≤ length l → drop a l ≡ behind c k l → behind_at c k l ≡ a
 unfolding behind_at
-behind-at c k l a h e = ap (λ (q : List ℕ). length l - length q) (sym e) ∙ omega (arith, length-drop a l)
+behind_at-here c k l a h e = ap (λ (q : List ℕ). length l - length q) (sym e) ∙ omega (arith, length-drop a l)
 
 -- the fields from the k-th on are those of what stands behind k separators, if there are so many
 abbrev Met : ℕ → List ℕ → ℕ → Type 0
@@ -143,7 +143,7 @@ module _ (l : List ℕ) (k a e : ℕ) (h : a ≤ length l) (m : drop a l ≡ beh
       ∙ sym (field_walk 0x20 l k)
 
   pub field_at : part_at l a e ≡ behind_at 0x20 k l
-  field_at = part-at l a e within.0 within.1 ∙ sym (behind-at 0x20 k l a h m)
+  field_at = part_at-inside l a e within.0 within.1 ∙ sym (behind_at-here 0x20 k l a h m)
 
 -- looking a word up: it is the one at k, or one behind it
 module _ (s : List ℕ) (ws : List (List ℕ)) (k : ℕ) (p : place_of s ws ≡ k + place_of s (drop k ws)) where

@@ -50,13 +50,13 @@ module _ (f after : List ℕ → List ℕ → List ℕ → List ℕ) (law : (key
             ((λ i. f ((t.first_key ∙ sym t.second_key) i) (sym (t.second-iv ∙ e) i) second.lent) ∙ sym (cbc_done _ _ _ _ g q));
       }
 
-pub encrypt-as_one : (first second whole : EncryptCall) → EncryptGoes (seen_encrypt first) (seen_encrypt second) (seen_encrypt whole)
+pub encrypt_as_one : (first second whole : EncryptCall) → EncryptGoes (seen_encrypt first) (seen_encrypt second) (seen_encrypt whole)
     → AsOne (seen_encrypt first) (seen_encrypt second) (seen_encrypt whole)
-encrypt-as_one first second whole t =
+encrypt_as_one first second whole t =
     as_one cbc_encrypt after_encrypt encrypt-halves (λ s. s.left) _ _ _ first.kept second.kept whole.kept t
     (ap (handed_on (seen_encrypt first).iv) (cbc_done _ _ _ _ (done-whole _ _ _ _ t.first_done first.kept) first.kept))
 
-pub decrypt-as_one : (first second whole : DecryptCall) → DecryptGoes (seen_decrypt first) (seen_decrypt second) (seen_decrypt whole)
+pub decrypt_as_one : (first second whole : DecryptCall) → DecryptGoes (seen_decrypt first) (seen_decrypt second) (seen_decrypt whole)
     → AsOne (seen_decrypt first) (seen_decrypt second) (seen_decrypt whole)
-decrypt-as_one first second whole t =
+decrypt_as_one first second whole t =
     as_one cbc_decrypt after_decrypt decrypt-halves (λ s. s.lent) _ _ _ first.kept second.kept whole.kept t refl

@@ -10,7 +10,7 @@ use Rattle.octets.proofs.Bytes.{bytes-append, bytes-replicate}
 use Rattle.octets.proofs.Xor.{xor_assoc}
 use Rattle.aes.specs.Cipher.{cipher, inv_cipher}
 use Rattle.aes.specs.Key.{key_expansion}
-use Rattle.aes.proofs.Inverse.{inv_cipher_lem}
+use Rattle.aes.proofs.Inverse.{inv_cipher-cipher}
 use Rattle.aes.proofs.KeyBytes.{expansion_bytes}
 use Rattle.cbc.specs.Cbc.{xor_block, encrypt_blocks, decrypt_blocks, cbc_encrypt, cbc_decrypt}
 use Rattle.cbc.specs.Halves.{handed_on, after_encrypt, after_decrypt, ByHalves}
@@ -57,8 +57,8 @@ first_block_wrong key iv hk wrong =
     sym (encrypt-zeros key zeros zeros refl)
     ∙ ap (λ (x : List ℕ). cbc_encrypt key (take 16 (x ++ iv)) zeros) (sym e) ∙ s ∙ ap (λ (x : List ℕ). cbc_encrypt key (handed_on iv x) zeros) e
     ∙ encrypt-zeros key ones ones refl in
-    zeros≢ones (sym (inv_cipher_lem w (expansion_bytes key hk) zeros refl hz) ∙ ap (inv_cipher w) t
-    ∙ inv_cipher_lem w (expansion_bytes key hk) ones refl ho)
+    zeros≢ones (sym (inv_cipher-cipher w (expansion_bytes key hk) zeros refl hz) ∙ ap (inv_cipher w) t
+    ∙ inv_cipher-cipher w (expansion_bytes key hk) ones refl ho)
 
 -- decryption's second half under the last block of the first's result: every first block c would begin as the inverse cipher of zeros does
 begins : (key iv : List ℕ) → ByHalves (cbc_decrypt key) (λ v a. handed_on v (cbc_decrypt key v a)) iv

@@ -16,7 +16,7 @@ use Rattle.aes.specs.Turn.{next_key}
 use Rattle.aes.specs.Cipher.{rounds, cipher, inv_cipher}
 use Rattle.aes.proofs.Keys.{words-turn}
 use Rattle.aes.proofs.KeyBytes.{expansion_bytes}
-use Rattle.aes.proofs.Inverse.{inv_cipher_lem}
+use Rattle.aes.proofs.Inverse.{inv_cipher-cipher}
 
 -- a round key and n more, each from the one before: what `schedule` says, without starting from the key for each
 turns : ℕ → List ℕ → ℕ → List ℕ
@@ -45,7 +45,7 @@ undone : (k p c : List ℕ) → tab 16 (λ i. get_or k i 0 % 256) ≡ k → tab 
     → cipher (key_expansion k) p ≡ c → inv_cipher (key_expansion k) c ≡ p
 undone k p c hk hp e =
     ap (inv_cipher (key_expansion k)) (sym e)
-    ∙ inv_cipher_lem (key_expansion k) (expansion_bytes k (bytes k hk)) p (ap length (sym hp)) (bytes p hp)
+    ∙ inv_cipher-cipher (key_expansion k) (expansion_bytes k (bytes k hk)) p (ap length (sym hp)) (bytes p hp)
 
 -- A.1 and B: the key, its round keys, the plain text and the cipher text
 abbrev key_b : List ℕ

@@ -29,7 +29,7 @@ module _ (S : Suite) (l code : List ℕ) where
   pub computed-done : (n : ℕ) → has_code S l ≡ true → code ≡ code_of S l → n ≡ S.blocks (coverage S l) → Computed S l code n
   computed-done n h e f = record { right = λ _. e; count = f ∙ sym (cond_true (has_code S l) (S.blocks (coverage S l)) 0 h) }
 
--- the two tests of `hasCode`, as the code makes them
+-- the two tests of `has_code`, as the code makes them
 module _ (S : Suite) (l : List ℕ) where
   pub code_fits : (b : Bool) → S.auth ≡ true → b ≡ leb S.m (length l) → b ≡ has_code S l
   code_fits b e f = f ∙ sym (ap (λ (x : Bool). x && leb S.m (length l)) e)

@@ -34,9 +34,9 @@ pub part_mid : (a x c : List ℕ) (n k : ℕ) → length a ≡ n → length x �
 part_mid a x c n k ha hx = ap (take k) (drop_at a (x ++ c) n ha) ∙ take_at x c k hx
 
 -- a payload that lies at its place is handed out
-pub payload-at : (a x c : List ℕ) (b : Bool) → length a ≡ payload_start b → payload_of (a ++ (x ++ c)) b (length x) ≡ x
+pub payload_of-between : (a x c : List ℕ) (b : Bool) → length a ≡ payload_start b → payload_of (a ++ (x ++ c)) b (length x) ≡ x
 unfolding payload_of
-payload-at a x c b h =
+payload_of-between a x c b h =
     let size : length (a ++ (x ++ c)) ≡ length a + (length x + length c) = length-append a (x ++ c) ∙ ap (λ (n : ℕ). length a + n) (length-append x c) in
     let fits : payload_start b + length x ≤ length (a ++ (x ++ c)) = omega arith in
     cond_true _ _ _ (le-leb _ _ fits) ∙ part_mid a x c (payload_start b) (length x) h refl
@@ -114,13 +114,13 @@ module _ (S : Suite) (L : Laws S) (M : Message) (F : Filling) (ok : Legal S M F)
       by_cases S.aes
       (λ e.
       ap (λ (x : List ℕ). payload_of x S.aes n) (opened-aes e ∙ ap (λ (x : List ℕ). (h ++ F.iv) ++ x) (append_assoc M.payload pad t))
-      ∙ payload-at (h ++ F.iv) M.payload (pad ++ t) S.aes
+      ∙ payload_of-between (h ++ F.iv) M.payload (pad ++ t) S.aes
       (length-append h F.iv ∙ ap₂ (λ (i j : ℕ). i + j) (length_header S M (length (body_of S M F))) (ok.iv-size e) ∙ sym (ap payload_start e)))
       (λ e.
       ap (λ (x : List ℕ). payload_of x S.aes n)
       (opened-plain e ∙ build-whole S M F
       ∙ ap (λ (x : List ℕ). h ++ (x ++ t)) (cond_false S.aes (F.iv ++ S.enc F.iv (plain_of M.payload F.p)) M.payload e))
-      ∙ payload-at h M.payload t S.aes (length_header S M (length (body_of S M F)) ∙ sym (ap payload_start e)))
+      ∙ payload_of-between h M.payload t S.aes (length_header S M (length (body_of S M F)) ∙ sym (ap payload_start e)))
 
 -- after reading the payload call, told whether the suite encrypts and how many bytes, hands out the payload that was carried
 module _ (S : Suite) (L : Laws S) (M : Message) where

@@ -21,9 +21,9 @@ module _ (l : List ℕ) (b : Bool) (n a : ℕ) (e : a ≡ payload_start b) where
         let size : a + n - a ≡ n = omega arith in
         ap (λ (k : ℕ). take k (drop a l)) size ∙ ap (λ (k : ℕ). part l k n) e ∙ sym (cond_true (payload_fits l b n) (part l (payload_start b) n) [] fits)
 
-    pub part-at : payload_at l b n ≡ a
+    pub payload_at-fits : payload_at l b n ≡ a
     unfolding payload_at
-    part-at = cond_true (payload_fits l b n) (payload_start b) 0 fits ∙ sym e
+    payload_at-fits = cond_true (payload_fits l b n) (payload_start b) 0 fits ∙ sym e
 
   module _ (h : length l < a + n) where
     passes : payload_fits l b n ≡ false

@@ -18,10 +18,10 @@ module _ (H : List ℕ → List ℕ) (B : ℕ) (N : List ℕ → ℕ) where
   key_count-long k l = rw (lt-leb (length k) B l)
 
   -- the key's hash, the inner hash of B + n bytes, the outer hash of B + L bytes
-  pub hmac-count : (c : ℕ → ℕ) → ((m : List ℕ) → N m ≡ c (length m)) → (L : ℕ) → ((m : List ℕ) → length (H m) ≡ L) → L ≤ B
+  pub hmac_count-lengths : (c : ℕ → ℕ) → ((m : List ℕ) → N m ≡ c (length m)) → (L : ℕ) → ((m : List ℕ) → length (H m) ≡ L) → L ≤ B
       → (k m : List ℕ) → hmac_count H B N k m ≡ key_count H B N k + c (B + length m) + c (B + L)
   unfolding hmac_count
-  hmac-count c by L sized small k m =
+  hmac_count-lengths c by L sized small k m =
       ap₂ (λ (x y : ℕ). key_count H B N k + x + y)
       (by (inner H B k m) ∙ ap c (inner-length H B L sized small k m))
       (by (outer H B k m) ∙ ap c (outer-length H B L sized small k m))

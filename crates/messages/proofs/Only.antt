@@ -27,7 +27,7 @@ use Rattle.messages.proofs.auth.IntegrityAlgorithm.code.Reads as integrity-reads
 use Rattle.messages.proofs.auth.ConfidentialityAlgorithm.code.Reads as confidentiality-reads
 use Rattle.messages.proofs.auth.is_level.Reads as is-level-reads
 use Rattle.messages.proofs.open_session.AlgorithmPayload.write.Reads as block-write-reads
-use Rattle.messages.proofs.open_session.AlgorithmPayload.from_data.Reads as block_reads
+use Rattle.messages.proofs.open_session.AlgorithmPayload.from_data.Reads as block-reads
 use Rattle.messages.proofs.open_session.OpenSessionRequest.write_data.Reads as request-reads
 use Rattle.messages.proofs.open_session.OpenSessionResponse.from_data.Reads as response-reads
 use Rattle.messages.proofs.rakp_1.Username.new.Reads as username-reads
@@ -101,7 +101,7 @@ pub block-write-only : (κs : _) (args : _) (a b : _) (s t : _)
     → block-write-reads.Post κs args a s → block-write-reads.Post κs args b t → a ≡ b
 block-write-only κs args a b s t p q = p ∙ sym q
 
-pub block-only : (κs : _) (args : _) (a b : _) (s t : _) → block_reads.Post κs args a s → block_reads.Post κs args b t → a ≡ b
+pub block-only : (κs : _) (args : _) (a b : _) (s t : _) → block-reads.Post κs args a s → block-reads.Post κs args b t → a ≡ b
 block-only κs args a b s t p q = block_one a b (p ∙ sym q)
 
 pub request-only : (κs : _) (args : _) (a b : _) (s t : _)

@@ -41,8 +41,8 @@ module _ (c : NameCall) where
   unfolding username_of
   name_order = c.kept.answer ∙ done-need _ _ _ _ ∙ ap (need (leb (length (lent_name c)) longest_name) 40 0) (done-need _ _ _ _)
 
-  pub name-too_long : (told c.answer.answer ≡ refuse 40 0) ↔ (longest_name < length (lent_name c))
-  name-too_long =
+  pub name_too_long : (told c.answer.answer ≡ refuse 40 0) ↔ (longest_name < length (lent_name c))
+  name_too_long =
       let own = need_own _ 40 0 _ (no_40 (allowed (lent_name c))) in
       ((λ e. leb-false _ _ (own.0 (sym name_order ∙ e))), (λ h. name_order ∙ own.1 (lt-leb _ _ h)))
 

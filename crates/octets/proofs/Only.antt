@@ -11,9 +11,9 @@ use Rattle.octets.proofs.be4.Reads as be4-reads
 use Rattle.octets.proofs.be8.Reads as be8-reads
 use Rattle.octets.proofs.load_le2.Reads as load-le2-reads
 use Rattle.octets.proofs.load_le4.Reads as load-le4-reads
-use Rattle.octets.proofs.put.Reads as put_reads
-use Rattle.octets.proofs.same.Reads as same_Reads
-use Rattle.octets.proofs.block.Reads as block_reads
+use Rattle.octets.proofs.put.Reads as put-reads
+use Rattle.octets.proofs.same.Reads as same-reads
+use Rattle.octets.proofs.block.Reads as block-reads
 
 pub le2-only : (κs : _) (args : _) (a b : _) (s t : _) → le2-reads.Post κs args a s → le2-reads.Post κs args b t → a ≡ b
 le2-only κs args a b s t p q = p ∙ sym q
@@ -35,16 +35,16 @@ pub load_le4-only : (κs : _) (args : _) (a b : _) (s t : _)
     → load-le4-reads.Post κs args a s → load-le4-reads.Post κs args b t → a ≡ b
 load_le4-only κs args a b s t p q = p ∙ sym q
 
-pub same-only : (κs : _) (args : _) (a b : _) (s t : _) → same_Reads.Post κs args a s → same_Reads.Post κs args b t → a ≡ b
+pub same-only : (κs : _) (args : _) (a b : _) (s t : _) → same-reads.Post κs args a s → same-reads.Post κs args b t → a ≡ b
 same-only κs args a b s t p q = p ∙ sym q
 
-pub block-only : (κs : _) (args : _) (a b : _) (s t : _) → block_reads.Post κs args a s → block_reads.Post κs args b t → a ≡ b
+pub block-only : (κs : _) (args : _) (a b : _) (s t : _) → block-reads.Post κs args a s → block-reads.Post κs args b t → a ≡ b
 block-only κs args a b s t p q = p ∙ sym q
 
 promise_only : (d : List ℕ) (n : ℕ) (m : List ℕ) (a b : Bool) (x y : List ℕ)
     → PutPromise d n m a x → PutPromise d n m b y → (a ≡ b) × (x ≡ y)
 promise_only d n m a b x y p q = (p.answer ∙ sym q.answer, p.buffer ∙ sym q.buffer)
 
-pub put_only : (κs : _) (args : _) (a b : _) (s t : _)
-    → put_reads.Post κs args a s → put_reads.Post κs args b t → (a ≡ b) × (s.0.now ≡ t.0.now)
-put_only κs args a b s t p q = promise_only _ _ _ a b _ _ p q
+pub put-only : (κs : _) (args : _) (a b : _) (s t : _)
+    → put-reads.Post κs args a s → put-reads.Post κs args b t → (a ≡ b) × (s.0.now ≡ t.0.now)
+put-only κs args a b s t p q = promise_only _ _ _ a b _ _ p q

@@ -74,7 +74,7 @@ found (datagram c) a e = promise_found _ _ _ _ _ (seen_once_datagram c) c.kept.0
 -- the numbers accepted are those that the record takes of some numbers, and the record is the one after these
 record Takes (a : Arrivals) (accepted : List ℕ) (r : Arrivals) : Type 0 where
   numbers : List ℕ
-  taken_of_lem : accepted ≡ taken_of a numbers
+  accepted_is : accepted ≡ taken_of a numbers
   after : r ≡ after_all a numbers
 
 takes-more : (a : Arrivals) (o : OnceSeen) (f : Found a o) (ns : List ℕ) (r : Arrivals) → Takes o.answer.arrivals ns r
@@ -90,9 +90,9 @@ takes-more a o f ns r t = by (cases (λ M. M.seq) a f.R)
         let e : o.answer.arrivals ≡ a = f.after ∙ h in
         record {
           numbers = t.numbers;
-          taken_of_lem =
+          accepted_is =
               told-number o.answer.read.answer ns ∙ ap (λ (x : Res Shown). number_told x ns) (f.told ∙ then_refuse G _ n v g)
-              ∙ t.taken_of_lem ∙ ap (λ (x : Arrivals). taken_of x t.numbers) e;
+              ∙ t.accepted_is ∙ ap (λ (x : Arrivals). taken_of x t.numbers) e;
           after = t.after ∙ ap (λ (x : Arrivals). after_all x t.numbers) e;
         }
 
@@ -104,9 +104,9 @@ takes-more a o f ns r t = by (cases (λ M. M.seq) a f.R)
         let k : o.answer.arrivals ≡ b = f.after ∙ g.1 in
         record {
           numbers = M.seq ∷ t.numbers;
-          taken_of_lem =
+          accepted_is =
               told-number o.answer.read.answer ns ∙ ap (λ (x : Res Shown). number_told x ns) (f.told ∙ then_accept G _ M g.0)
-              ∙ ap (λ (x : List ℕ). M.seq ∷ x) (t.taken_of_lem ∙ ap (λ (x : Arrivals). taken_of x t.numbers) k)
+              ∙ ap (λ (x : List ℕ). M.seq ∷ x) (t.accepted_is ∙ ap (λ (x : Arrivals). taken_of x t.numbers) k)
               ∙ sym (ap (λ (x : Res Arrivals). with_taken x M.seq (taken_of (kept_by x a) t.numbers)) h);
           after =
               t.after ∙ ap (λ (x : Arrivals). after_all x t.numbers) k
@@ -115,20 +115,20 @@ takes-more a o f ns r t = by (cases (λ M. M.seq) a f.R)
 
 takes : (a : Arrivals) (cs : List OnceAny) (r : Arrivals) → Readings a cs r → Takes a (numbers_read cs) r
 unfolding taken_of after_all
-takes a [] r (none b) = record { numbers = []; taken_of_lem = refl; after = refl }
+takes a [] r (none b) = record { numbers = []; accepted_is = refl; after = refl }
 takes a (c ∷ cs) r (next b s d ds e t) = takes-more a (seen_any c) (found c a e) (numbers_read cs) r (takes (seen_any c).answer.arrivals cs r t)
 
 -- over any packets and datagrams no number is accepted twice, from any record on
 pub packets_once : (a : Arrivals) (cs : List OnceAny) (r : Arrivals) → Readings a cs r → unrepeated (numbers_read cs) ≡ true
-packets_once a cs r t = let w = takes a cs r t in ap unrepeated w.taken_of_lem ∙ each_once a w.numbers
+packets_once a cs r t = let w = takes a cs r t in ap unrepeated w.accepted_is ∙ each_once a w.numbers
 
 -- nor is one accepted that the first record marks, or that is too old for it
 pub packets_never : (a : Arrivals) (cs : List OnceAny) (r : Arrivals) → Readings a cs r → (m : ℕ) → Barred a m → among m (numbers_read cs) ≡ false
-packets_never a cs r t m b = let w = takes a cs r t in ap (among m) w.taken_of_lem ∙ never a w.numbers m b
+packets_never a cs r t m b = let w = takes a cs r t in ap (among m) w.accepted_is ∙ never a w.numbers m b
 
 -- and the count, where the record was new, is of the packets accepted among the last 32
 pub packets_counted : (m : NewCall) (cs : List OnceAny) (r : Arrivals) → Readings m.answer cs r → (c : CountCall) → c.args.0 ≡ r
     → c.answer ≡ last_of (highest_of (numbers_read cs)) (numbers_read cs)
 packets_counted m cs r t c e =
     let w = takes m.answer cs r t in
-    c.kept ∙ ap count_of e ∙ counted m.answer m.kept (numbers_read cs) w.numbers r w.taken_of_lem w.after
+    c.kept ∙ ap count_of e ∙ counted m.answer m.kept (numbers_read cs) w.numbers r w.accepted_is w.after

@@ -114,7 +114,14 @@ fn turn(
     room: &mut [u8],
     out: &mut [u8],
 ) -> io::Result<State> {
-    let s = refill(s, from, piece)?;
+    let s = match refill(s, from, piece) {
+        Ok(s) => s,
+        Err(e) => {
+            // The answers that wait are written out all the same.
+            flush(rt, out, s.at, 0)?;
+            return Err(e);
+        }
+    };
     let s = gather(s, piece, line);
     let s = make_room(rt, s, out)?;
     Ok(reply(s, line, bytes, room, out))

@@ -58,7 +58,7 @@ pub tells : (l d : List ℕ) (c r : Cursor) (t : Telling) (exit : List ℕ)
 unfolding told
 tells l d c r t exit e p = add_of d c (line_of t) (told l) r exit (line_told t ∙ ap line_for e) p
 
--- the packet that rule 8.1 shows; text's `first-line` has the characters of its line
+-- the packet that rule 8.1 shows; text's `first_line` has the characters of its line
 pub first-packet :
     told (0x06 ∷ 0x00 ∷ 0x0D ∷ 0x0C ∷ 0x0B ∷ 0x0A ∷ 0x01 ∷ 0x00 ∷ 0x00 ∷ 0x00 ∷ 0x02 ∷ 0x00 ∷ 0xAA ∷ 0xBB ∷ [])
     ≡ packet_line 0 0x0a0b0c0d 1 2

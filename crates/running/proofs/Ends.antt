@@ -9,7 +9,7 @@ use Rattle.running.specs.Running.{pending, closing, digest_of, count_of, after}
 use Rattle.running.proofs.Blocks.{runs_on}
 use Rattle.running.proofs.Takes.{waits}
 use Rattle.running.proofs.Closes.{length-pad}
-use Rattle.running.proofs.Sizes.{block-count}
+use Rattle.running.proofs.Sizes.{block_count-ceiling}
 
 module _ {C : Type 0} (H : Hash C) where
   -- what waits after the bytes of m
@@ -55,7 +55,7 @@ module _ {C : Type 0} (H : Hash C) where
   unfolding count_of
   count-after m l =
       sum_below (after H m).blocks (length (closing (after H m)) / 64) (block_count m)
-      (ap (λ (x : ℕ). x + length (closing (after H m)) / 64) (blocks-after m) ∙ (end_after m).1) (rw (block-count m) (omega arith))
+      (ap (λ (x : ℕ). x + length (closing (after H m)) / 64) (blocks-after m) ∙ (end_after m).1) (rw (block_count-ceiling m) (omega arith))
 
   pub len_after : (m : List ℕ) → (after H m).len ≡ length m
   unfolding after

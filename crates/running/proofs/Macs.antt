@@ -20,7 +20,7 @@ use Rattle.running.specs.Mac.{mac_after, mac_taken, mac_running, mac_digest, mac
 use Rattle.running.specs.Promise.{limit}
 use Rattle.running.proofs.Blocks.{runs-two}
 use Rattle.running.proofs.Takes.{taken-after, after-taken}
-use Rattle.running.proofs.Sizes.{block-count, last_one, digest-length, fits}
+use Rattle.running.proofs.Sizes.{block_count-ceiling, last_one, digest-length, fits}
 use Rattle.running.proofs.Ends.{digest-after, count-after}
 
 module _ {C : Type 0} (H : Hash C) (ok : Sized H) where
@@ -91,7 +91,7 @@ module _ {C : Type 0} (H : Hash C) (ok : Sized H) where
       let x : List ℕ = d ++ pad (64 + H.size) in
       let n : length (o ++ d) ≡ 64 + H.size = length-append o d ∙ omega arith in
       let f : (o ++ d) ++ pad (length (o ++ d)) ≡ o ++ x = rw n (append_assoc o d (pad (64 + H.size))) in
-      let c : block_count (o ++ d) ≡ 2 = block-count (o ++ d) ∙ rw n (omega (arith, ok.short)) in
+      let c : block_count (o ++ d) ≡ 2 = block_count-ceiling (o ++ d) ∙ rw n (omega (arith, ok.short)) in
       ap H.code
       (runs-two H.compress H.first o x lo ∙ ap₂ (λ (i : ℕ) (t : List ℕ). runs H.compress i H.first t) (sym c) (sym f))
 
@@ -104,7 +104,7 @@ module _ {C : Type 0} (H : Hash C) (ok : Sized H) where
 
   key_count-most : (k : List ℕ) → length k ≤ limit → key_blocks_of H k ≤ ceiling (limit + 9) 64
   unfolding key_count
-  key_count-most k l = most (leb (length k) 64) (block_count k) (omega (arith, block-count k))
+  key_count-most k l = most (leb (length k) 64) (block_count k) (omega (arith, block_count-ceiling k))
     where
       most : (b : Bool) (n : ℕ) → n ≤ ceiling (limit + 9) 64 → cond b 0 n ≤ ceiling (limit + 9) 64
       most true n h = omega arith
@@ -122,8 +122,8 @@ module _ {C : Type 0} (H : Hash C) (ok : Sized H) where
       let o : List ℕ = outer (digest H) 64 k m in
       let ni : length i ≡ 64 + length m = inner-size k m in
       let no : length o ≡ 64 + H.size = outer-length (digest H) 64 H.size (digest-length H ok) (fits H ok) k m in
-      let co : block_count o ≡ 2 = block-count o ∙ rw no (omega (arith, ok.short)) in
-      let ci : block_count i ≡ ceiling (length i + 9) 64 = block-count i in
+      let co : block_count o ≡ 2 = block_count-ceiling o ∙ rw no (omega (arith, ok.short)) in
+      let ci : block_count i ≡ ceiling (length i + 9) 64 = block_count-ceiling i in
       let ck : key_blocks_of H k ≤ ceiling (limit + 9) 64 = key_count-most k lk in
       sums (key_blocks_of H k) (block_count i) (count_of (after H i)) (key_blocks_of H k + block_count i + block_count o)
       (rw co refl) (omega arith) (count-after H i (omega arith))

@@ -7,7 +7,7 @@ use lib.ListN.{length, length-append}
 use Rattle.octets.specs.Bytes.{Bytes}
 use Rattle.hmac.specs.Count.{ceiling, key_count}
 use Rattle.hmac.proofs.Keyed.{hmac-length, hmac-bytes}
-use Rattle.hmac.proofs.Counted.{hmac-count, key_count-short, key_count-long}
+use Rattle.hmac.proofs.Counted.{hmac_count-lengths, key_count-short, key_count-long}
 use Rattle.running.specs.Hash.{Hash, Sized, runs, zeros, pad, padded, block_count, digest}
 use Rattle.running.specs.Mac.{hmac_of, hmac_blocks_of}
 use Rattle.running.proofs.Closes.{length-pad}
@@ -25,9 +25,9 @@ unfolding padded
 padded-whole m = rw (length-append m (pad (length m)), length-pad (length m)) (omega arith)
 
 -- a finished hash of n bytes compresses the ceiling of (n + 9) / 64 blocks
-pub block-count : (m : List ℕ) → block_count m ≡ ceiling (length m + 9) 64
+pub block_count-ceiling : (m : List ℕ) → block_count m ≡ ceiling (length m + 9) 64
 unfolding block_count padded
-block-count m = rw (length-append m (pad (length m)), length-pad (length m)) (omega arith)
+block_count-ceiling m = rw (length-append m (pad (length m)), length-pad (length m)) (omega arith)
 
 -- a code behind a block takes one block more
 pub last_one : (d : List ℕ) (n : ℕ) → length d ≡ n → n ≤ 55 → length (d ++ pad (64 + n)) / 64 ≡ 1
@@ -52,18 +52,18 @@ module _ {C : Type 0} (H : Hash C) (ok : Sized H) where
   pub mac-bytes : (k m : List ℕ) → Bytes (hmac_of H k m)
   mac-bytes k m = hmac-bytes (digest H) 64 digest-bytes k m
 
-  mac-count : (k m : List ℕ) → hmac_blocks_of H k m ≡ key_count (digest H) 64 block_count k + ceiling (length m + 73) 64 + 2
-  mac-count k m =
-      hmac-count (digest H) 64 block_count (λ n. ceiling (n + 9) 64) block-count H.size digest-length fits k m
+  hmac_blocks_of-count : (k m : List ℕ) → hmac_blocks_of H k m ≡ key_count (digest H) 64 block_count k + ceiling (length m + 73) 64 + 2
+  hmac_blocks_of-count k m =
+      hmac_count-lengths (digest H) 64 block_count (λ n. ceiling (n + 9) 64) block_count-ceiling H.size digest-length fits k m
       ∙ omega (arith, ok.short)
 
   -- HMAC of n bytes under a key of up to 64 bytes
   pub mac_count-short : (k m : List ℕ) → length k ≤ 64 → hmac_blocks_of H k m ≡ ceiling (length m + 73) 64 + 2
-  mac_count-short k m l = mac-count k m ∙ rw (key_count-short (digest H) 64 block_count k l) (omega arith)
+  mac_count-short k m l = hmac_blocks_of-count k m ∙ rw (key_count-short (digest H) 64 block_count k l) (omega arith)
 
   -- a longer key adds the blocks of its hash
   pub mac_count-long : (k m : List ℕ) → 64 < length k → hmac_blocks_of H k m ≡ ceiling (length k + 9) 64 + (ceiling (length m + 73) 64 + 2)
-  mac_count-long k m l = mac-count k m ∙ rw (key_count-long (digest H) 64 block_count k l, block-count k) (omega arith)
+  mac_count-long k m l = hmac_blocks_of-count k m ∙ rw (key_count-long (digest H) 64 block_count k l, block_count-ceiling k) (omega arith)
 
   -- under a short key, 0 and 55 bytes take 4 blocks, 56 take 5
   pub mac-marked : (k m : List ℕ) → length k ≤ 64

@@ -32,9 +32,9 @@ sub_unsub a h =
 
 module _ (s : List ℕ) (size : length s ≡ 16) (small : (i : ℕ) → get_or s i 0 < 256) where
   -- each block substitution undoes the other
-  pub unsub_sub_bytes : unsub_bytes (sub_bytes s) ≡ s
+  pub unsub-sub_bytes : unsub_bytes (sub_bytes s) ≡ s
   unfolding sub_bytes unsub_bytes
-  unsub_sub_bytes =
+  unsub-sub_bytes =
       (λ i. u 0 i ∷ u 1 i ∷ u 2 i ∷ u 3 i ∷ u 4 i ∷ u 5 i ∷ u 6 i ∷ u 7 i
       ∷ u 8 i ∷ u 9 i ∷ u 10 i ∷ u 11 i ∷ u 12 i ∷ u 13 i ∷ u 14 i ∷ u 15 i ∷ [])
       ∙ tab_self s 16 size

@@ -23,9 +23,9 @@ use Rattle.session.specs.Steps.{ready_two, heard_two, code_two, sik_two, code_th
 use Rattle.session.specs.declared.Asked.{Asked}
 use Rattle.session.specs.declared.Record.{Record}
 
-pub in_step_lem : (s : Record) (k : ℕ) → in_step s k ≡ true → (step_number s.step ≡ k) × (s.begun.username.len ≤ 16)
+pub in_step-parts : (s : Record) (k : ℕ) → in_step s k ≡ true → (step_number s.step ≡ k) × (s.begun.username.len ≤ 16)
 unfolding in_step
-in_step_lem s k e =
+in_step-parts s k e =
     let a = (and-eq-true_iff (eqb (step_number s.step) k) (leb s.begun.username.len 16)).0 e in
     (eqb-true _ _ a.0, leb-true _ _ a.1)
 
@@ -88,7 +88,7 @@ open_tells s m rm room M e =
     let k : d.0 ≡ c.0 = accept_inj _ _ h.1 in
     let w : made_open s rm c.0 ≡ M = accept_inj _ _ c.2 in (
       c.0,
-      (in_step_lem s 1 b.0).0,
+      (in_step-parts s 1 b.0).0,
       (λ z. response-system m d.0 d.1 (ap (λ (x : Response). x.system) k ∙ z)),
       ap (λ (x : Made). x.next) (sym w),
       ap (λ (x : Made). x.bytes) (sym w),
@@ -110,7 +110,7 @@ two-tells most s kg password m room M e =
     let d = need_inv _ _ _ _ c.2 in
     let w : made_two s kg password c.0 ≡ M = accept_inj _ _ d.1 in (
       c.0,
-      (in_step_lem s 2 b.0).0,
+      (in_step-parts s 2 b.0).0,
       ap (λ (x : Made). x.next) (sym w),
       ap (λ (x : Made). x.bytes) (sym w),
       c.1,
@@ -133,7 +133,7 @@ four-tells s m M e =
     let n : fields4 m ≡ d.0 = accept_inj _ _ k.2 in
     let v : drop d.0.value.at m ≡ value_four s = same_true _ _ h.0 in
     let w = accept_inj _ _ c.2 in (
-      (in_step_lem s 3 b.0).0,
+      (in_step-parts s 3 b.0).0,
       ap (λ (x : RakpMessage4). drop x.value.at m) n ∙ v,
       ap (λ (x : Made). x.next) (sym w),
     )

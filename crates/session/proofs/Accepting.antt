@@ -54,8 +54,8 @@ open_accepts s m rm room r a b e t i c =
     (then_accept _ _ r e ∙ pass _ _ _ _ (eq-eqb _ open_tag t) (pass _ _ _ _ (eq-eqb _ _ i) (pass _ _ _ _ c refl)))
 
 -- message 2
-legal-kg : (n : ℕ) → (n ≡ 0) ⊎ (n ≡ kg_size) → legal_kg n ≡ true
-legal-kg n h =
+legal_kg-yes : (n : ℕ) → (n ≡ 0) ⊎ (n ≡ kg_size) → legal_kg n ≡ true
+legal_kg-yes n h =
     ⊎_elim
     (λ (e : n ≡ 0). ap (λ (t : Bool). t || eqb n kg_size) (eq-eqb n 0 e))
     (λ (e : n ≡ kg_size). ap (λ (t : Bool). eqb n 0 || t) (eq-eqb n kg_size e) ∙ or-true (eqb n 0))
@@ -69,7 +69,7 @@ unfolding two_of ready_two heard_two proved_two
 two-accepts most s kg password m room f a k p b e t i n c =
     then_accept _ _ tt
     (pass _ _ _ _ a
-    (pass _ _ _ _ (legal-kg (length kg) k) (pass _ _ _ _ (le-leb _ most p) (pass _ _ _ _ (le-leb three_size _ b) refl))))
+    (pass _ _ _ _ (legal_kg-yes (length kg) k) (pass _ _ _ _ (le-leb _ most p) (pass _ _ _ _ (le-leb three_size _ b) refl))))
     ∙ then_accept _ _ f
     (then_accept _ _ f e
     ∙ pass _ _ _ _ (eq-eqb _ tag1 t) (pass _ _ _ _ (eq-eqb _ _ i) (pass _ _ _ _ (eq-eqb _ code_size n) refl)))

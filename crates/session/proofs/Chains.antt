@@ -114,27 +114,27 @@ module _ (s : Record) (m : List ℕ) where
   heard_open-refused n v e = sym (then_refuse _ _ n v e)
 
   module _ (r : OpenSessionResponse) (e : open_response m ≡ accept (response_numbers r)) where
-    heard_open_lem : heard_open s m
+    heard_open-order : heard_open s m
         ≡ need (eqb r.tag open_tag) 27 0
         (need (eqb r.console s.begun.console) 28 0
         (need (carried (response_numbers r)) 29 0
         (accept (response_numbers r))))
     unfolding heard_open response_numbers
-    heard_open_lem = then_accept _ _ _ e
+    heard_open-order = then_accept _ _ _ e
 
     pub open27 : (r.tag ≡ open_tag → ⊥) → refuse 27 0 ≡ heard_open s m
-    open27 d = sym (heard_open_lem ∙ need-no _ _ _ _ (ne_eqb _ _ d))
+    open27 d = sym (heard_open-order ∙ need-no _ _ _ _ (ne_eqb _ _ d))
 
     module _ (t : r.tag ≡ open_tag) where
       pub open28 : (r.console ≡ s.begun.console → ⊥) → refuse 28 0 ≡ heard_open s m
-      open28 d = sym (heard_open_lem ∙ pass _ _ _ _ (eq-eqb _ _ t) (need-no _ _ _ _ (ne_eqb _ _ d)))
+      open28 d = sym (heard_open-order ∙ pass _ _ _ _ (eq-eqb _ _ t) (need-no _ _ _ _ (ne_eqb _ _ d)))
 
       module _ (c : r.console ≡ s.begun.console) where
         pub open29 : carried (response_numbers r) ≡ false → refuse 29 0 ≡ heard_open s m
-        open29 d = sym (heard_open_lem ∙ pass _ _ _ _ (eq-eqb _ _ t) (pass _ _ _ _ (eq-eqb _ _ c) (need-no _ _ _ _ d)))
+        open29 d = sym (heard_open-order ∙ pass _ _ _ _ (eq-eqb _ _ t) (pass _ _ _ _ (eq-eqb _ _ c) (need-no _ _ _ _ d)))
 
         pub open_heard : carried (response_numbers r) ≡ true → accept (response_numbers r) ≡ heard_open s m
-        open_heard d = sym (heard_open_lem ∙ pass _ _ _ _ (eq-eqb _ _ t) (pass _ _ _ _ (eq-eqb _ _ c) (pass _ _ _ _ d refl)))
+        open_heard d = sym (heard_open-order ∙ pass _ _ _ _ (eq-eqb _ _ t) (pass _ _ _ _ (eq-eqb _ _ c) (pass _ _ _ _ d refl)))
 
 -- before message 2 is looked at
 module _ (most : ℕ) (s : Record) (kg password : List ℕ) (room : ℕ) where
@@ -184,27 +184,27 @@ module _ (s : Record) (m : List ℕ) where
   heard_two-refused n v e = then_refuse _ _ n v e
 
   module _ (f : RakpMessage2) (e : message2 m ≡ accept f) where
-    heard_two_lem : heard_two s m
+    heard_two-order : heard_two s m
         ≡ need (eqb f.tag tag1) 27 0
         (need (eqb f.console s.begun.console) 28 0
         (need (eqb f.code.len code_size) 30 0
         (accept f)))
     unfolding heard_two
-    heard_two_lem = then_accept _ _ f e
+    heard_two-order = then_accept _ _ f e
 
     pub two27 : (f.tag ≡ tag1 → ⊥) → heard_two s m ≡ refuse 27 0
-    two27 d = heard_two_lem ∙ need-no _ _ _ _ (ne_eqb _ _ d)
+    two27 d = heard_two-order ∙ need-no _ _ _ _ (ne_eqb _ _ d)
 
     module _ (t : f.tag ≡ tag1) where
       pub two28 : (f.console ≡ s.begun.console → ⊥) → heard_two s m ≡ refuse 28 0
-      two28 d = heard_two_lem ∙ pass _ _ _ _ (eq-eqb _ _ t) (need-no _ _ _ _ (ne_eqb _ _ d))
+      two28 d = heard_two-order ∙ pass _ _ _ _ (eq-eqb _ _ t) (need-no _ _ _ _ (ne_eqb _ _ d))
 
       module _ (c : f.console ≡ s.begun.console) where
         pub two30 : (f.code.len ≡ code_size → ⊥) → heard_two s m ≡ refuse 30 0
-        two30 d = heard_two_lem ∙ pass _ _ _ _ (eq-eqb _ _ t) (pass _ _ _ _ (eq-eqb _ _ c) (need-no _ _ _ _ (ne_eqb _ _ d)))
+        two30 d = heard_two-order ∙ pass _ _ _ _ (eq-eqb _ _ t) (pass _ _ _ _ (eq-eqb _ _ c) (need-no _ _ _ _ (ne_eqb _ _ d)))
 
         pub two_heard : f.code.len ≡ code_size → heard_two s m ≡ accept f
-        two_heard d = heard_two_lem ∙ pass _ _ _ _ (eq-eqb _ _ t) (pass _ _ _ _ (eq-eqb _ _ c) (pass _ _ _ _ (eq-eqb _ _ d) refl))
+        two_heard d = heard_two-order ∙ pass _ _ _ _ (eq-eqb _ _ t) (pass _ _ _ _ (eq-eqb _ _ c) (pass _ _ _ _ (eq-eqb _ _ d) refl))
 
   pub two-found : (f : RakpMessage2) → heard_two s m ≡ accept f → message2 m ≡ accept f
   unfolding heard_two
@@ -230,24 +230,24 @@ module _ (s : Record) (m : List ℕ) where
   heard_four-refused n v e = then_refuse _ _ n v e
 
   module _ (f : RakpMessage4) (e : message4 m ≡ accept f) where
-    heard_four_lem : heard_four s m
+    heard_four-order : heard_four s m
         ≡ need (eqb f.tag tag3) 27 0
         (need (eqb f.id s.begun.console) 28 0
         (need (same (drop f.value.at m) (value_four s)) 32 0
         (accept f)))
     unfolding heard_four
-    heard_four_lem = then_accept _ _ f e
+    heard_four-order = then_accept _ _ f e
 
     pub four27 : (f.tag ≡ tag3 → ⊥) → heard_four s m ≡ refuse 27 0
-    four27 d = heard_four_lem ∙ need-no _ _ _ _ (ne_eqb _ _ d)
+    four27 d = heard_four-order ∙ need-no _ _ _ _ (ne_eqb _ _ d)
 
     module _ (t : f.tag ≡ tag3) where
       pub four28 : (f.id ≡ s.begun.console → ⊥) → heard_four s m ≡ refuse 28 0
-      four28 d = heard_four_lem ∙ pass _ _ _ _ (eq-eqb _ _ t) (need-no _ _ _ _ (ne_eqb _ _ d))
+      four28 d = heard_four-order ∙ pass _ _ _ _ (eq-eqb _ _ t) (need-no _ _ _ _ (ne_eqb _ _ d))
 
       module _ (c : f.id ≡ s.begun.console) where
         pub four32 : same (drop f.value.at m) (value_four s) ≡ false → heard_four s m ≡ refuse 32 0
-        four32 d = heard_four_lem ∙ pass _ _ _ _ (eq-eqb _ _ t) (pass _ _ _ _ (eq-eqb _ _ c) (need-no _ _ _ _ d))
+        four32 d = heard_four-order ∙ pass _ _ _ _ (eq-eqb _ _ t) (pass _ _ _ _ (eq-eqb _ _ c) (need-no _ _ _ _ d))
 
         pub four_heard : same (drop f.value.at m) (value_four s) ≡ true → heard_four s m ≡ accept f
-        four_heard d = heard_four_lem ∙ pass _ _ _ _ (eq-eqb _ _ t) (pass _ _ _ _ (eq-eqb _ _ c) (pass _ _ _ _ d refl))
+        four_heard d = heard_four-order ∙ pass _ _ _ _ (eq-eqb _ _ t) (pass _ _ _ _ (eq-eqb _ _ c) (pass _ _ _ _ d refl))

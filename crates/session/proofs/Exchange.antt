@@ -39,9 +39,9 @@ module _ (y : System) (r : Regular y) (s : Record) (request one : List ℕ) (a :
   abbrev said : RakpMessage2
   said = two_says tag1 s.begun.console y.random y.guid
 
-  code-length : length (code_in y request one) ≡ code_size
+  code_in-length : length (code_in y request one) ≡ code_size
   unfolding code_in
-  code-length = mac-length _ _
+  code_in-length = mac-length _ _
 
   code_agrees : code_in y request one ≡ code_two s y.password said
   unfolding code_in code_two
@@ -57,9 +57,9 @@ module _ (y : System) (r : Regular y) (s : Record) (request one : List ℕ) (a :
       → two_of most s y.kg y.password (second y request one) room ≡ accept (made_two s y.kg y.password said)
   two-taken most room e p h =
       two-accepts most s y.kg y.password (second y request one) room said (is_in_step s 2 e w) r.kg p h
-      (ap message2 second_is ∙ two_heard tag1 s.begun.console y.random y.guid _ a b r.random r.guid code-length)
+      (ap message2 second_is ∙ two_heard tag1 s.begun.console y.random y.guid _ a b r.random r.guid code_in-length)
       refl refl refl
-      (ap (drop 40) second_is ∙ two-code tag1 s.begun.console y.random y.guid _ a b r.random r.guid code-length ∙ code_agrees)
+      (ap (drop 40) second_is ∙ two-code tag1 s.begun.console y.random y.guid _ a b r.random r.guid code_in-length ∙ code_agrees)
 
   sik_agrees : sik_two s y.kg y.password said ≡ sik_in y one
   unfolding sik_two sik_in

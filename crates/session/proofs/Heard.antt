@@ -40,9 +40,9 @@ id-back : (n : ℕ) → n < 2 ^ 32 → unle (le 4 n) ≡ n
 id-back n h = unle-le 4 n h
 
 -- a block that is written in the place of its type
-of_type_lem : (t c : ℕ) → leb t 2 ≡ true → leb c (last_code t) ≡ true → of_type t (block_of (block_bytes t c)) ≡ accept c
+of_type-block_bytes : (t c : ℕ) → leb t 2 ≡ true → leb c (last_code t) ≡ true → of_type t (block_of (block_bytes t c)) ≡ accept c
 unfolding of_type block_of known
-of_type_lem t c h k =
+of_type-block_bytes t c h k =
     then_accept _ _ (record { type = t; code = c }) (pass _ _ _ _ refl (pass _ _ _ _ h (pass _ _ _ _ k refl)))
     ∙ pass _ _ _ _ (eq-eqb t t refl) refl
 
@@ -66,8 +66,8 @@ module _ (tag level own id i c : ℕ) (a : own < 2 ^ 32) (b : own ≡ 0 → ⊥)
       let n : Response = response_says tag level (unle (le 4 own)) (unle (le 4 id)) i c in
       then_accept _ _ tt (sym (open_passed m (omega arith) refl refl (is_level level) refl l (λ z. b (sym x ∙ z)) (λ z. q (sym y ∙ z))))
       ∙ sym
-      (fields-all m 1 (of_type_lem 0 1 refl refl) i (of_type_lem 1 i refl (le-leb i 4 (omega arith))) c n
-      (of_type_lem 2 c refl (le-leb c 3 (omega arith))) refl)
+      (fields-all m 1 (of_type-block_bytes 0 1 refl refl) i (of_type-block_bytes 1 i refl (le-leb i 4 (omega arith))) c n
+      (of_type-block_bytes 2 c refl (le-leb c 3 (omega arith))) refl)
       ∙ ap₂ (λ (u v : ℕ). accept (response_says tag level u v i c)) x y
 
 -- message 2
@@ -208,9 +208,9 @@ module _ (s : RakpMessage1) (e : length s.random ≡ 16) where
   one_name : name_in (message1 s) ≡ name_of s.username
   one_name = rw (one-count, one-rest, take-length (name_of s.username))
 
-  pub one_size_lem : length (message1 s) ≡ 28 + length (name_of s.username)
+  pub message1-length : length (message1 s) ≡ 28 + length (name_of s.username)
   unfolding message1
-  one_size_lem = simp length-append (omega arith)
+  message1-length = simp length-append (omega arith)
 
   pub one-who : who_in (message1 s) ≡ role_name s.role (name_of s.username)
   unfolding who_in
@@ -221,7 +221,7 @@ module _ (s : RakpMessage1) (e : length s.random ≡ 16) where
       → length (name_of s.username) ≤ 16 → allowed (name_of s.username) ≡ true → TakesOne y (message1 s)
   one-taken y i h l b n w =
       record {
-        size = one_size_lem ∙ ap (λ (k : ℕ). 28 + k) (sym one-count);
+        size = message1-length ∙ ap (λ (k : ℕ). 28 + k) (sym one-count);
         reserved = one-reserved;
         system = one-system h ∙ sym i;
         role = rw one-role l;

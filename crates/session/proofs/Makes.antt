@@ -53,9 +53,9 @@ use Rattle.session.proofs.Stages.{step-made}
 use Rattle.session.proofs.Chains.{two-found}
 
 -- a code under a key that is short enough
-pub digest_of_lem : (k m : List ℕ) (r : Hashed) → length k ≤ limit
+pub hashed-digest : (k m : List ℕ) (r : Hashed) → length k ≤ limit
     → HashedPromise (leb (length k) limit) (hmac_sha1 k m) (hmac_blocks k m) r → r.digest ≡ hmac_sha1 k m
-digest_of_lem k m r h p =
+hashed-digest k m r h p =
     let q : HashedPromise true (hmac_sha1 k m) (hmac_blocks k m) r = rw (le-leb (length k) limit h) at p in
     (yes q).1
 
@@ -127,17 +127,17 @@ heard_now R r p e =
     u.1 ∙ ap accept (sym (p.message u.0 u.1))
 
 -- the code's place lies in the message
-pub code_in : (s : Record) (m : List ℕ) (f : RakpMessage2) → heard_two s m ≡ accept f → f.code.at ≤ length m
+pub code_inside : (s : Record) (m : List ℕ) (f : RakpMessage2) → heard_two s m ≡ accept f → f.code.at ≤ length m
 unfolding fields2
-code_in s m f e =
+code_inside s m f e =
     let g = found_2 m f (two-found s m f e) in
     let z : f.code.at ≡ 40 = ap (λ (x : RakpMessage2). x.code.at) g.0 in
     omega (arith, g.1)
 
 -- and so does the value's in message 4
-pub value_in_lem : (m : List ℕ) (f : RakpMessage4) → message4 m ≡ accept f → f.value.at ≤ length m
+pub value_inside : (m : List ℕ) (f : RakpMessage4) → message4 m ≡ accept f → f.value.at ≤ length m
 unfolding fields4
-value_in_lem m f e =
+value_inside m f e =
     let g = found_4 m f e in
     let z : f.value.at ≡ 8 = ap (λ (x : RakpMessage4). x.value.at) g.0 in
     omega (arith, g.1)

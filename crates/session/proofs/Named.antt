@@ -36,7 +36,7 @@ use Rattle.session.proofs.Stages.{Only, Quiet, only-accept, only-need, only_then
 use Rattle.session.proofs.Refusals.{ready_begin_quiet, username_quiet}
 use Rattle.session.proofs.Accepted.{begin-tells, open_tells}
 use Rattle.session.proofs.Invariant.{reached-sound, reached-holds}
-use Rattle.session.proofs.Heard.{one_size_lem, one-count, one-rest}
+use Rattle.session.proofs.Heard.{message1-length, one-count, one-rest}
 use Rattle.session.proofs.Calls.{BeginCall, OpenCall, TwoCall, FourCall, name_lent, seen_begin, seen_open, random_sixteen, made-sent}
 
 -- a record that waits for a step or is open holds the name that Begin was given
@@ -65,7 +65,7 @@ open_names asked name s r m rm room M k e =
     (record {
       short = w.0;
       legal = w.1;
-      size = one_size_lem first k ∙ ap (λ (l : List ℕ). one_size (length l)) n;
+      size = message1-length first k ∙ ap (λ (l : List ℕ). one_size (length l)) n;
       count = one-count first k ∙ ap length n;
       rest = one-rest first k ∙ n;
     })
@@ -140,9 +140,9 @@ module _ (c : BeginCall) where
   unfolding begin_of ready_begin username_of
   begin_order = c.kept.answer ∙ five_tests _ _ _ _ _ _ _ _
 
-  pub begin-too_long : (told c.answer.answer ≡ refuse 40 0)
+  pub begin_too_long : (told c.answer.answer ≡ refuse 40 0)
       ↔ ((c.args.0.console ≡ 0 → ⊥) × (level_allowed c.args.0.level ≡ true) × (longest_name < length (name_lent c)))
-  begin-too_long = (
+  begin_too_long = (
     (λ e.
         let p = need-past _ 20 0 _ {m = 40} (λ z. omega arith) (sym begin_order ∙ e) in
         let q = need-past _ 19 _ _ {m = 40} (λ z. omega arith) p.1 in

@@ -22,13 +22,13 @@ pub code-short : (i : I.Integrity) → code_length i ≤ longest_code
 code-short I.TheVariants.None = omega arith
 code-short I.TheVariants.HmacSha1_96 = omega arith
 
-code-size : (s : SubState) (l : List ℕ) → length ((suite_of s).mac l) ≡ code_length s.integrity
-code-size s l =
+mac-code_length : (s : SubState) (l : List ℕ) → length ((suite_of s).mac l) ≡ code_length s.integrity
+mac-code_length s l =
     length-take-le (code_length s.integrity) (hmac_sha1 s.keys.k1 l) (omega (arith, mac-length s.keys.k1 l, code-short s.integrity))
 
 -- whatever the algorithms and the keys
 pub suite_lengths : (s : SubState) → Lengths (suite_of s)
-suite_lengths s = record { mac-length = λ _. code-size s; enc-length = λ _. encrypt-length (aes_key_of s.keys) }
+suite_lengths s = record { mac-length = λ _. mac-code_length s; enc-length = λ _. encrypt-length (aes_key_of s.keys) }
 
 -- the same so long as the keys are bytes, as they are in every value of their type
 pub suite_laws : (s : SubState) → Bytes s.keys.k2 → Laws (suite_of s)
@@ -36,7 +36,7 @@ suite_laws s hk =
     let key : List ℕ = aes_key_of s.keys in
     let hb : Bytes key = bytes_take 16 s.keys.k2 hk in
     record {
-      mac-length = code-size s;
+      mac-length = mac-code_length s;
       enc-length = encrypt-length key;
       dec-length = decrypt-length key;
       dec-bytes = λ iv l hi bi h bl. decrypt-bytes key iv hb l bi bl;

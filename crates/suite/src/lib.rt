@@ -12,7 +12,7 @@ ghost use Rattle.suite.specs.Code.{CodePromise};
 use keys::Keys;
 use refusal::Refusal;
 
-// The eight payload types; `typeNumber` gives the number of each.
+// The eight payload types; `type_number` gives the number of each.
 #[derive(Clone, Copy)]
 pub enum PayloadType {
     IpmiMessage,

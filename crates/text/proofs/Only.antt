@@ -5,7 +5,7 @@ use mathlib.Core.List.{List}
 use mathlib.Core.Path.{◌≡◌, sym, ◌∙◌}
 use Rattle.text.specs.Promise.{AddPromise}
 use Rattle.text.specs.declared.write.Cursor.{Cursor}
-use Rattle.text.proofs.write.add.Reads as add_reads
+use Rattle.text.proofs.write.add.Reads as add-reads
 use Rattle.text.proofs.write.decimal.Reads as decimal-reads
 use Rattle.text.proofs.write.hex.Reads as hex-reads
 use Rattle.text.proofs.write.hex8.Reads as hex8-reads
@@ -22,7 +22,7 @@ pub add_promise_only : (d : List ℕ) (c : Cursor) (m : List ℕ) (a b : Cursor)
 add_promise_only d c m a b x y p q = (p.cursor ∙ sym q.cursor, p.buffer ∙ sym q.buffer)
 
 pub add-only : (κs : _) (args : _) (a b : _) (s t : _)
-    → add_reads.Post κs args a s → add_reads.Post κs args b t → (a ≡ b) × (s.0.now ≡ t.0.now)
+    → add-reads.Post κs args a s → add-reads.Post κs args b t → (a ≡ b) × (s.0.now ≡ t.0.now)
 add-only κs args a b s t p q = add_promise_only _ _ _ a b _ _ p q
 
 pub decimal-only : (κs : _) (args : _) (a b : _) (s t : _)

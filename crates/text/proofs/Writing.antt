@@ -44,9 +44,9 @@ by_flag true c m n e = let z : ◌≡◌ {A = ℕ} 0 1 = cc in absurd (omega ari
 by_flag false c m n e = leb-true (c.at + n) m e
 
 -- where a piece goes in there is room
-pub room_of_lem : (c : Cursor) (m n : ℕ) → takes c m n ≡ true → c.at + n ≤ m
+pub takes-fits : (c : Cursor) (m n : ℕ) → takes c m n ≡ true → c.at + n ≤ m
 unfolding takes
-room_of_lem c m n e = by_flag c.full c m n e
+takes-fits c m n e = by_flag c.full c m n e
 
 -- a piece that went in
 pub add-yes : (d : List ℕ) (c : Cursor) (s x : List ℕ) → takes c (length d) (length s) ≡ true → x ≡ pasted d c.at s

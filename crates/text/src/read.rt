@@ -115,9 +115,9 @@ fn join_digits(h: u8, l: u8) -> u8
 
 // Puts the bytes where they are known to fit.
 fn put_bytes(out: &mut [u8], at: usize, s: &[u8])
-    requires s_in_bounds { at + length (pairs s.now) ≤ length out.old }
-    requires s_len { length s.now % 2 ≡ 0 }
-    requires s_value { digits 16 s.now ≡ true }
+    requires room { at + length (pairs s.now) ≤ length out.old }
+    requires s_even { length s.now % 2 ≡ 0 }
+    requires s_digits { digits 16 s.now ≡ true }
     ensures { out.new ≡ pasted out.old at (pairs s.now) }
 {
     let mut i: usize = 0;

@@ -1,13 +1,13 @@
 -- `pick_part` keeps its promise: the part lies at its place, or is empty at the start.
 use native.Mathlib.Omega.{arith}
 use borrow.Author.Rules.{rules}
-use Rattle.cases.proofs.Parts.{part_there, part-at, part-past, part-past-at, part_turned, part_turned-at}
+use Rattle.cases.proofs.Parts.{part_there, part_at-inside, part-past, part-past-at, part_turned, part_turned-at}
 use Rattle.cases.proofs.split.pick_part.Goals as goal
 
 pub returns-then-to-s : goal.returns-then-to-s
 returns-then-to-s c =
     let a = c.args in
-    let p = part-at a.s.now a.from a.to (omega arith) (omega arith) in
+    let p = part_at-inside a.s.now a.from a.to (omega arith) (omega arith) in
     (part_there a.s.now a.from a.to (omega arith) (omega arith), search rules, omega (arith, p))
 
 pub returns-else-to-s : goal.returns-else-to-s

@@ -1,4 +1,4 @@
--- `feed_role` keeps its promise: two pieces, whose bytes are N by `role-text`.
+-- `feed_role` keeps its promise: two pieces, whose bytes are N by `role_text`.
 use lib.Seq.{length-take-le}
 use lib.ListN.{length, take}
 use mathlib.Core.Path.{◌≡◌, refl}

@@ -2,7 +2,7 @@
 use Rattle.refusal.specs.Order.{done}
 use Rattle.messages.specs.Answers.{told4}
 use mathlib.Core.Path.{sym, ◌∙◌, ap}
-use Rattle.session.proofs.Makes.{value_in_lem, same-four}
+use Rattle.session.proofs.Makes.{value_inside, same-four}
 use Rattle.session.proofs.Chains.{four27, four28, four32, four_heard, heard_four-refused}
 use Rattle.session.proofs.checking.check_message.Goals as goal
 
@@ -22,13 +22,13 @@ pub slice_bounds-same-count : goal.slice_bounds-same-count
 slice_bounds-same-count c =
     let m = c.args.message.now in
     let got = c.from_data.ensures in
-    value_in_lem m c.in-Message.f (sym got ∙ ap told4 c.in-Message.is)
+    value_inside m c.in-Message.f (sym got ∙ ap told4 c.in-Message.is)
 
 pub slice_bounds-same-start : goal.slice_bounds-same-start
 slice_bounds-same-start c =
     let m = c.args.message.now in
     let got = c.from_data.ensures in
-    value_in_lem m c.in-Message.f (sym got ∙ ap told4 c.in-Message.is)
+    value_inside m c.in-Message.f (sym got ∙ ap told4 c.in-Message.is)
 
 pub returns-then-not-same : goal.returns-then-not-same
 returns-then-not-same c =

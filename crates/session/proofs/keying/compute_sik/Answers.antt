@@ -3,7 +3,7 @@ use Rattle.messages.specs.Name.{name_of}
 use Rattle.session.specs.Steps.{sik_two, who}
 use native.Mathlib.Omega.{arith}
 use Rattle.keys.specs.Chosen.{key_of}
-use Rattle.session.proofs.Makes.{digest_of_lem, key-short}
+use Rattle.session.proofs.Makes.{hashed-digest, key-short}
 use Rattle.session.proofs.keying.compute_sik.Goals as goal
 
 pub returns : goal.returns
@@ -12,4 +12,4 @@ returns c =
     let a = c.args in
     let h = c.sik-h in
     let n = key-short a.kg.now a.password.now (omega arith) (omega arith) in
-    digest_of_lem (key_of a.kg.now a.password.now) _ h.result n h.ensures
+    hashed-digest (key_of a.kg.now a.password.now) _ h.result n h.ensures

@@ -6,7 +6,7 @@ use mathlib.Core.Path.{sym, ◌∙◌, ap}
 use native.Mathlib.Omega.{arith}
 use Rattle.refusal.proofs.Order.{then_refuse, done-no}
 use Rattle.messages.proofs.Reading.{test-passed, test-refused}
-use Rattle.session.proofs.Makes.{heard_now, code_in}
+use Rattle.session.proofs.Makes.{heard_now, code_inside}
 use Rattle.session.specs.Constants.{longest_password}
 use Rattle.session.proofs.Chains.{two-known}
 use Rattle.session.proofs.Refusals.{ready_two_keeps, heard_two_shuts}
@@ -21,7 +21,7 @@ answer_message-requires c =
     let t = test-passed _ _ call c.in-Done.is in
     let k = two-known longest_password a.state a.kg.now a.password.now (length a.out.now) t in
     let u = heard_now _ d.result d.ensures c.in-Done-answer.is in
-    (omega arith, omega arith, k.2, code_in a.state a.message.now d.result.message u)
+    (omega arith, omega arith, k.2, code_inside a.state a.message.now d.result.message u)
 
 pub returns-in-Refused : goal.returns-in-Refused
 unfolding two_of

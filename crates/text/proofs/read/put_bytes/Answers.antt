@@ -16,7 +16,7 @@ join_digits-requires c =
     let a = c.args in
     let pre = c.requires in
     let s = a.s.now in
-    (digits-at 16 (2 * l.i) s pre.s_value (omega arith), digits-at 16 (2 * l.i + 1) s pre.s_value (omega arith))
+    (digits-at 16 (2 * l.i) s pre.s_digits (omega arith), digits-at 16 (2 * l.i + 1) s pre.s_digits (omega arith))
 
 pub bounds-out-at : goal.bounds-out-at
 bounds-out-at c = omega (arith, length_pairs c.args.s.now)
@@ -27,7 +27,7 @@ loop-i-preserved c =
     let a = c.args in
     let pre = c.requires in (
       omega arith,
-      pair_turn l.out a.out.now a.s.now a.at l.i _ l.invariant.1 (omega arith) pre.s_in_bounds
+      pair_turn l.out a.out.now a.s.now a.at l.i _ l.invariant.1 (omega arith) pre.room
           c.join_digits.ensures,
       length-set l.out _ _ ∙ l.invariant.2,
     )

@@ -43,5 +43,5 @@ returns c =
     (hexed-yes a.s.now if1.false (sym is-hex.ensures ∙ if2.false)) (omega arith)
     put-bytes.ensures
 
-pub put_bytes-requires-clause-s_in_bounds : goal.put_bytes-requires-clause-s_in_bounds
-put_bytes-requires-clause-s_in_bounds c = omega (arith, length_pairs c.args.s.now)
+pub put_bytes-requires-clause-room : goal.put_bytes-requires-clause-room
+put_bytes-requires-clause-room c = omega (arith, length_pairs c.args.s.now)

@@ -3,7 +3,7 @@ use mathlib.Core.Path.{sym, ◌∙◌}
 use native.Mathlib.Omega.{arith}
 use lib.ListN.{length}
 use Rattle.octets.proofs.Place.{put-done}
-use Rattle.text.proofs.Writing.{room_of_lem, add-yes}
+use Rattle.text.proofs.Writing.{takes-fits, add-yes}
 use Rattle.text.proofs.write.add.Goals as goal
 
 pub overflow_add-result : goal.overflow_add-result
@@ -11,7 +11,7 @@ overflow_add-result c =
     let a = c.args in
     let if1 = c.if-has_room in
     let has_room = c.has_room in
-    omega (arith, room_of_lem a.c (length a.out.now) (length a.s.now) (sym has_room.ensures ∙ if1.true))
+    omega (arith, takes-fits a.c (length a.out.now) (length a.s.now) (sym has_room.ensures ∙ if1.true))
 
 pub returns-then-has_room : goal.returns-then-has_room
 returns-then-has_room c =
@@ -21,4 +21,4 @@ returns-then-has_room c =
     let has_room = c.has_room in
     let e = sym has_room.ensures ∙ if1.true in
     add-yes a.out.now a.c a.s.now _ e
-    (put-done a.out.now a.c.at a.s.now _ _ put.ensures (room_of_lem a.c _ _ e))
+    (put-done a.out.now a.c.at a.s.now _ _ put.ensures (takes-fits a.c _ _ e))

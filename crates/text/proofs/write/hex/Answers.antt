@@ -3,7 +3,7 @@ use Prim.Native.Nat.{◌*◌}
 use mathlib.Core.Path.{sym, ◌∙◌}
 use native.Mathlib.Omega.{arith}
 use lib.ListN.{length}
-use Rattle.text.proofs.Writing.{room_of_lem, hex-yes, hex-no}
+use Rattle.text.proofs.Writing.{takes-fits, hex-yes, hex-no}
 use Rattle.text.proofs.write.hex.Goals as goal
 
 pub put_hex-requires : goal.put_hex-requires
@@ -11,14 +11,14 @@ put_hex-requires c =
     let a = c.args in
     let if1 = c.if-has_room in
     let has_room = c.has_room in
-    omega (arith, room_of_lem a.c (length a.out.now) (2 * length a.s.now) (sym has_room.ensures ∙ if1.true))
+    omega (arith, takes-fits a.c (length a.out.now) (2 * length a.s.now) (sym has_room.ensures ∙ if1.true))
 
 pub overflow_add-result : goal.overflow_add-result
 overflow_add-result c =
     let a = c.args in
     let if1 = c.if-has_room in
     let has_room = c.has_room in
-    omega (arith, room_of_lem a.c (length a.out.now) (2 * length a.s.now) (sym has_room.ensures ∙ if1.true))
+    omega (arith, takes-fits a.c (length a.out.now) (2 * length a.s.now) (sym has_room.ensures ∙ if1.true))
 
 pub returns-then-has_room : goal.returns-then-has_room
 returns-then-has_room c =

@@ -2,7 +2,8 @@
 // reading, `o` for reading once or `w` for writing; a digit, 0, 1 or 2 for a payload of 7, 64 or 1,024 bytes; then a byte for each turn.
 #![tactic(auto)]
 
-ghost use Rattle.std.specs.Prelude.{◌≡◌, ◌≤◌, IfOk, length};
+ghost use Rattle.std.specs.Prelude.{◌≡◌, ◌<◌, ◌≤◌, IfOk, length, take};
+ghost use Rattle.std.specs.Io.KnownBytes.{Consumes, IsAtEnd};
 
 use arrivals::Arrivals;
 use frame::{Confidentiality, Integrity, PayloadType, Read, Reading, SubState, Written};
@@ -269,9 +270,13 @@ fn run(rt: &impl Print, given: &[u8], payload: &[u8]) -> io::Result<bool> {
     run_letter(rt, given[0], &payload[..n], given.len() - 2)
 }
 
-// Goes on after a short read, until the input ends or there is no more room, and answers how many bytes were read.
-fn read_full(input: &mut impl io::Read, room: &mut [u8]) -> io::Result<usize>
-    ensures { IfOk result (λ n. n ≤ length room.new) }
+// Goes on after a short read, until the input ends or there is no more room, and answers how many bytes were read: they stand at the
+// room's start.
+fn read_full<R: io::Read>(input: &mut R, room: &mut [u8]) -> io::Result<usize>
+    ensures bound { IfOk result (λ n. n ≤ length room.new) }
+    ensures bytes { IfOk result (λ n.
+        Consumes (R.remaining input.old) (R.remaining input.new) (take n room.new)) }
+    ensures end { IfOk result (λ n. n < length room.new → IsAtEnd (R.remaining input.new)) }
 {
     let mut done = 0;
     while done < room.len() {

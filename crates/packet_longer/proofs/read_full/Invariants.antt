@@ -1,9 +1,11 @@
--- Every read puts a byte at least, so fewer are left to fill; what is filled lies within the room.
-use Rattle.std.proofs.Common.{length, ◌-◌, ◌≤◌}
+-- Every read puts a byte at least, so fewer are left to fill; what is filled lies within the room, and is what the reader gave.
+use Rattle.std.proofs.Common.{length, take, ◌-◌, ◌≤◌}
+use Rattle.std.specs.Io.KnownBytes.{Consumes}
 use Rattle.packet_longer.proofs.read_full.Given as goal
 
 abbrev pub invariant-loop-done : goal.invariant-loop-done
-invariant-loop-done g l = l.done ≤ length l.room
+invariant-loop-done g l = (l.done ≤ length l.room)
+    × Consumes (g.R.Read.remaining l.initial.input) (g.R.Read.remaining l.input) (take l.done l.room)
 
 abbrev pub decreases-loop-done : goal.decreases-loop-done
 decreases-loop-done g l = length l.initial.room - l.done

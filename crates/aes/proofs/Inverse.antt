@@ -12,7 +12,7 @@ use Rattle.aes.specs.State.{shift_rows, unshift_rows, mix_row, unmix_row, mix_co
 use Rattle.aes.specs.Cipher.{rounds, cipher, unrounds, inv_cipher}
 use Rattle.octets.proofs.Xor.{xor_twice}
 use Rattle.aes.proofs.Mix.{unmix_mix, mix_unmix}
-use Rattle.aes.proofs.Block.{Block, sub-block, unsub_block, shift_block, unshift_block, mix_block, unmix_block, add-block}
+use Rattle.aes.proofs.Block.{Block, sub_block, unsub_block, shift_block, unshift_block, mix_block, unmix_block, add_block}
 
 -- each transformation undoes its inverse, on a block
 module _ (s : List ℕ) (h : Block s) where
@@ -25,7 +25,7 @@ module _ (s : List ℕ) (h : Block s) where
   shift_unshift = tab_self s 16 h.size
 
   unsub_sub : unsub_bytes (sub_bytes s) ≡ s
-  unsub_sub = sbox.unsub-sub_bytes s h.size h.small
+  unsub_sub = sbox.unsub_sub_bytes s h.size h.small
 
   sub_unsub : sub_bytes (unsub_bytes s) ≡ s
   sub_unsub = sbox.sub-unsub_bytes s h.size h.small
@@ -75,11 +75,11 @@ module _ (w : List ℕ) (hw : Bytes w) where
   back zero s h = refl
   back (suc n) s h =
       let x : List ℕ = shift_rows (sub_bytes (rounds w n s)) in
-      let hx : Block x = shift_block _ (sub-block _).small in
+      let hx : Block x = shift_block _ (sub_block _).small in
       let hm : Block (mix_columns x) = mix_block x hx.small in
-      let hr : Block (add_round_key w (suc n) (mix_columns x)) = add-block w hw (suc n) _ hm.small in
+      let hr : Block (add_round_key w (suc n) (mix_columns x)) = add_block w hw (suc n) _ hm.small in
       ap (λ (y : List ℕ). unrounds w n (unmix_columns (add_round_key w (suc n) y)))
-      (ap unsub_bytes (unshift_shift _ (sub-block _)) ∙ unsub_sub _ hr)
+      (ap unsub_bytes (unshift_shift _ (sub_block _)) ∙ unsub_sub _ hr)
       ∙ ap (λ (y : List ℕ). unrounds w n (unmix_columns y)) (add-add (mix_columns x) hm w (suc n))
       ∙ ap (unrounds w n) (unmix_mix_columns x hx)
       ∙ back n s h
@@ -89,10 +89,10 @@ module _ (w : List ℕ) (hw : Bytes w) where
   inv_cipher-cipher b size small =
       let hb : Block b = record { size = size; small = small } in
       let s : List ℕ = add_round_key w 0 b in
-      let hs : Block s = add-block w hw 0 b small in
-      ap (λ (y : List ℕ). add_round_key w 0 (unsub_bytes (unshift_rows (unrounds w 9 y)))) (add-add _ (shift_block _ (sub-block _).small) w 10)
+      let hs : Block s = add_block w hw 0 b small in
+      ap (λ (y : List ℕ). add_round_key w 0 (unsub_bytes (unshift_rows (unrounds w 9 y)))) (add-add _ (shift_block _ (sub_block _).small) w 10)
       ∙ ap (λ (y : List ℕ). add_round_key w 0 (unsub_bytes (unshift_rows y))) (back 9 s hs)
-      ∙ ap (λ (y : List ℕ). add_round_key w 0 (unsub_bytes y)) (unshift_shift _ (sub-block s))
+      ∙ ap (λ (y : List ℕ). add_round_key w 0 (unsub_bytes y)) (unshift_shift _ (sub_block s))
       ∙ ap (add_round_key w 0) (unsub_sub s hs)
       ∙ add-add b hb w 0
 
@@ -103,7 +103,7 @@ module _ (w : List ℕ) (hw : Bytes w) where
   forth (suc n) t h =
       let y : List ℕ = unsub_bytes (unshift_rows t) in
       let hy : Block y = unsub_block _ in
-      let ha : Block (add_round_key w (suc n) y) = add-block w hw (suc n) y hy.small in
+      let ha : Block (add_round_key w (suc n) y) = add_block w hw (suc n) y hy.small in
       let hu : Block (unmix_columns (add_round_key w (suc n) y)) = unmix_block _ ha.small in
       ap (λ (x : List ℕ). shift_rows (sub_bytes (add_round_key w (suc n) (mix_columns x)))) (forth n _ hu)
       ∙ ap (λ (x : List ℕ). shift_rows (sub_bytes (add_round_key w (suc n) x))) (mix_unmix_columns _ ha)
@@ -116,7 +116,7 @@ module _ (w : List ℕ) (hw : Bytes w) where
   cipher-inv_cipher b size small =
       let hb : Block b = record { size = size; small = small } in
       let t : List ℕ = add_round_key w 10 b in
-      let ht : Block t = add-block w hw 10 b small in
+      let ht : Block t = add_block w hw 10 b small in
       ap (λ (y : List ℕ). add_round_key w 10 (shift_rows (sub_bytes (rounds w 9 y)))) (add-add _ (unsub_block _) w 0)
       ∙ ap (add_round_key w 10) (forth 9 t ht)
       ∙ add-add b hb w 10

@@ -11,7 +11,7 @@ use lib.ListN.{length, get_or, take}
 use lib.Seq.{take_all}
 use Rattle.octets.specs.Place.{pasted}
 use Rattle.octets.specs.Promise.{PutPromise}
-use Rattle.octets.proofs.Place.{put-done, length-pasted, take_put}
+use Rattle.octets.proofs.Place.{put_done, length-pasted, take_put}
 use Rattle.sbox.specs.Field.{xtime}
 use Rattle.sbox.specs.Substitution.{sub_byte, sub_bytes}
 use Rattle.aes.specs.Key.{powers, rcon, rot_word, sub_word, xor_word, temp, word, words, schedule, key_expansion}
@@ -61,18 +61,18 @@ turned_is k rc = λ i.
     z j = sym (xor_zero_r (sub_byte (get_or k j 0)))
 
 -- every fourth word is turned, substituted and given the round's constant
-temp-first : (n : ℕ) (a : List ℕ) → temp (4 * n + 4) a ≡ xor_word (sub_word (rot_word a)) (powers n ∷ 0 ∷ 0 ∷ 0 ∷ [])
+temp_first : (n : ℕ) (a : List ℕ) → temp (4 * n + 4) a ≡ xor_word (sub_word (rot_word a)) (powers n ∷ 0 ∷ 0 ∷ 0 ∷ [])
 unfolding temp rcon
-temp-first n a =
+temp_first n a =
     let e : (4 * n + 4) % 4 ≡ 0 = omega arith in
     let m : (4 * n + 4) / 4 - 1 ≡ n = omega arith in
     ap (λ (b : Bool). cond b (xor_word (sub_word (rot_word a)) (rcon ((4 * n + 4) / 4))) a) (eq-eqb ((4 * n + 4) % 4) 0 e)
     ∙ ap (λ (j : ℕ). xor_word (sub_word (rot_word a)) (powers j ∷ 0 ∷ 0 ∷ 0 ∷ [])) m
 
 -- the others are as they are
-temp-other : (i : ℕ) (a : List ℕ) → (i % 4 ≡ 0 → ⊥) → temp i a ≡ a
+temp_other : (i : ℕ) (a : List ℕ) → (i % 4 ≡ 0 → ⊥) → temp i a ≡ a
 unfolding temp
-temp-other i a h = ap (λ (b : Bool). cond b (xor_word (sub_word (rot_word a)) (rcon (i / 4))) a) (ne_eqb (i % 4) 0 h)
+temp_other i a h = ap (λ (b : Bool). cond b (xor_word (sub_word (rot_word a)) (rcon (i / 4))) a) (ne_eqb (i % 4) 0 h)
 
 -- one word on
 abbrev step : List ℕ → List ℕ → List ℕ
@@ -91,17 +91,17 @@ unfolding next_key
 four w rc = refl
 
 -- the next round key
-pub words-turn : (k : List ℕ) (n : ℕ) → words k (4 * suc n) ≡ next_key (words k (4 * n)) (powers n)
-words-turn k n =
+pub words_turn : (k : List ℕ) (n : ℕ) → words k (4 * suc n) ≡ next_key (words k (4 * n)) (powers n)
+words_turn k n =
     let e : 4 * suc n ≡ suc (suc (suc (suc (4 * n)))) = omega arith in
     ap (words k) e
-    ∙ words-suc k (suc (suc (suc (4 * n)))) ∙ ap (step (words k (suc (suc (suc (4 * n)))))) (temp-other _ _ (λ z. omega arith))
+    ∙ words-suc k (suc (suc (suc (4 * n)))) ∙ ap (step (words k (suc (suc (suc (4 * n)))))) (temp_other _ _ (λ z. omega arith))
     ∙ ap on
-    (words-suc k (suc (suc (4 * n))) ∙ ap (step (words k (suc (suc (4 * n))))) (temp-other _ _ (λ z. omega arith))
+    (words-suc k (suc (suc (4 * n))) ∙ ap (step (words k (suc (suc (4 * n))))) (temp_other _ _ (λ z. omega arith))
     ∙ ap on
-    (words-suc k (suc (4 * n)) ∙ ap (step (words k (suc (4 * n)))) (temp-other _ _ (λ z. omega arith))
+    (words-suc k (suc (4 * n)) ∙ ap (step (words k (suc (4 * n)))) (temp_other _ _ (λ z. omega arith))
     ∙ ap on
-    (words-suc k (4 * n) ∙ ap (step (words k (4 * n))) (temp-first n (word (words k (4 * n)) 3)))))
+    (words-suc k (4 * n) ∙ ap (step (words k (4 * n))) (temp_first n (word (words k (4 * n)) 3)))))
     ∙ four (words k (4 * n)) (powers n)
 
 pub length-next_key : (k : List ℕ) (rc : ℕ) → length (next_key k rc) ≡ 16
@@ -109,35 +109,35 @@ unfolding next_key
 length-next_key k rc = refl
 
 -- the first round key, put at the start
-pub key-first : (k d x : List ℕ) (r : Bool) → length k ≡ 16 → length d ≡ 176 → PutPromise d 0 k r x
+pub key_first : (k d x : List ℕ) (r : Bool) → length k ≡ 16 → length d ≡ 176 → PutPromise d 0 k r x
     → (take (16 * (0 + 1)) x ≡ schedule k (0 + 1)) × (length x ≡ 176)
 unfolding schedule words
-key-first k d x r hk hd p =
+key_first k d x r hk hd p =
     let h : 0 + length k ≤ length d = omega arith in
-    let e : x ≡ pasted d 0 k = put-done d 0 k r x p h in
+    let e : x ≡ pasted d 0 k = put_done d 0 k r x p h in
     (ap (take 16) e ∙ take_put d 0 16 k hk (omega arith), ap length e ∙ length-pasted d 0 k h ∙ hd)
 
 -- the next round key, put behind the others
-pub key-turn : (k₀ : List ℕ) (n : ℕ) (w k : List ℕ) (rc : ℕ) (k' w' : List ℕ) (r : Bool) → n < 10
+pub key_turn : (k₀ : List ℕ) (n : ℕ) (w k : List ℕ) (rc : ℕ) (k' w' : List ℕ) (r : Bool) → n < 10
     → (take (16 * (n + 1)) w ≡ schedule k₀ (n + 1)) × (length w ≡ 176) × (k ≡ words k₀ (4 * n)) × (rc ≡ powers n)
     → k' ≡ next_key k rc → PutPromise w (16 * (n + 1)) k' r w'
     → (take (16 * (n + 1 + 1)) w' ≡ schedule k₀ (n + 1 + 1)) × (length w' ≡ 176) × (k' ≡ words k₀ (4 * (n + 1)))
 unfolding schedule
-key-turn k₀ n w k rc k' w' r hn (ht, hl, hk, hr) hk' p =
+key_turn k₀ n w k rc k' w' r hn (ht, hl, hk, hr) hk' p =
     let l : length k' ≡ 16 = ap length hk' ∙ length-next_key k rc in
     let h : 16 * (n + 1) + length k' ≤ length w = omega arith in
-    let e : w' ≡ pasted w (16 * (n + 1)) k' = put-done w (16 * (n + 1)) k' r w' p h in
+    let e : w' ≡ pasted w (16 * (n + 1)) k' = put_done w (16 * (n + 1)) k' r w' p h in
     let m : 16 * (n + 1 + 1) ≡ 16 * (n + 1) + 16 = omega arith in
-    let s : k' ≡ words k₀ (4 * (n + 1)) = hk' ∙ ap₂ next_key hk hr ∙ sym (words-turn k₀ n) ∙ ap (λ (j : ℕ). words k₀ (4 * j)) (sym (add-one n)) in
+    let s : k' ≡ words k₀ (4 * (n + 1)) = hk' ∙ ap₂ next_key hk hr ∙ sym (words_turn k₀ n) ∙ ap (λ (j : ℕ). words k₀ (4 * j)) (sym (add-one n)) in
     let g : 16 * (n + 1) ≤ length w = omega arith in (
       ap₂ take m e ∙ take_put w (16 * (n + 1)) 16 k' l g ∙ ap₂ ◌++◌ ht s ∙ ap (schedule k₀) (sym (add-one (n + 1))),
       ap length e ∙ length-pasted w (16 * (n + 1)) k' h ∙ hl,
       s,
     )
 
-pub powers-turn : (n rc r : ℕ) → rc ≡ powers n → r ≡ xtime rc → r ≡ powers (n + 1)
+pub powers_turn : (n rc r : ℕ) → rc ≡ powers n → r ≡ xtime rc → r ≡ powers (n + 1)
 unfolding powers
-powers-turn n rc r e f = f ∙ ap xtime e ∙ ap powers (sym (add-one n))
+powers_turn n rc r e f = f ∙ ap xtime e ∙ ap powers (sym (add-one n))
 
 -- all of them
 pub key_end : (k₀ w : List ℕ) (n : ℕ) → n ≡ 10 → take (16 * (n + 1)) w ≡ schedule k₀ (n + 1) → length w ≡ 176 → w ≡ key_expansion k₀

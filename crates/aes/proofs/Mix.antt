@@ -7,8 +7,8 @@ use Rattle.aes.specs.State.{row, mix_row, unmix_row}
 use Rattle.octets.proofs.Xor.{xor_assoc}
 use Rattle.octets.proofs.ByBits.{Linear, by_bits}
 use Rattle.sbox.proofs.Linear.{mul-xor, xtime-xor, mul_1, mul_2, mul_3, mul_9, mul_11, mul_13, mul_14}
-use Rattle.aes.proofs.Quad.{quad, quad_ap, quad-turn, quad-quad, quad-xor, quad-first, quad-left, quad_234, quad_12, quad_13}
-use Rattle.aes.proofs.Quad.{xtime-quad, mul-quad}
+use Rattle.aes.proofs.Quad.{quad, quad_ap, quad_turn, quad_quad, quad_xor, quad_first, quad_left, quad_234, quad_12, quad_13}
+use Rattle.aes.proofs.Quad.{xtime_quad, mul_quad}
 
 -- one doubling for a byte of a mixed column
 pub mix_one : (a b c d : ℕ) → bit_xor (bit_xor (xtime (bit_xor a b)) b) (bit_xor c d) ≡ mix_row a b c d
@@ -50,9 +50,9 @@ pub unmix_one : (a b c d : ℕ)
 unfolding unmix_row
 unmix_one a b c d =
     ap (λ (x : ℕ). bit_xor x (bit_xor b (bit_xor c d))) (xtime-xor _ (bit_xor a b) ∙ ap (λ (x : ℕ). bit_xor x (xtime (bit_xor a b))) deep)
-    ∙ quad-left _ _ _ _
+    ∙ quad_left _ _ _ _
     ∙ quad_ap eight four (xtime-xor a b ∙ quad_12 (xtime a) (xtime b)) (quad_234 b c d)
-    ∙ quad-quad _ _ _ _ _ _ _ _ _ _ _ _ _ _ _ _
+    ∙ quad_quad _ _ _ _ _ _ _ _ _ _ _ _ _ _ _ _
     ∙ sym (row_is 14 11 13 9 a b c d ∙ quad_ap (by_14 a) (by_11 b) (by_13 c) (by_9 d))
   where
     four : xtime (xtime (bit_xor a c)) ≡ quad (xtime (xtime a)) 0 (xtime (xtime c)) 0
@@ -60,7 +60,7 @@ unmix_one a b c d =
 
     eight : xtime (xtime (xtime (quad a b c d)))
         ≡ quad (xtime (xtime (xtime a))) (xtime (xtime (xtime b))) (xtime (xtime (xtime c))) (xtime (xtime (xtime d)))
-    eight = ap (λ (x : ℕ). xtime (xtime x)) (xtime-quad a b c d) ∙ ap xtime (xtime-quad _ _ _ _) ∙ xtime-quad _ _ _ _
+    eight = ap (λ (x : ℕ). xtime (xtime x)) (xtime_quad a b c d) ∙ ap xtime (xtime_quad _ _ _ _) ∙ xtime_quad _ _ _ _
 
     deep : xtime (xtime (bit_xor (xtime (quad a b c d)) (bit_xor a c)))
         ≡ bit_xor (xtime (xtime (xtime (quad a b c d)))) (xtime (xtime (bit_xor a c)))
@@ -90,23 +90,23 @@ module _ (p q r s p' q' r' s' : ℕ) where
   row-row a b c d =
       row_is p q r s _ _ _ _
       ∙ quad_ap
-      (ap (mul p) (row_is p' q' r' s' a b c d) ∙ mul-quad p _ _ _ _)
-      (ap (mul q) (row_is p' q' r' s' b c d a ∙ sym (quad-turn _ _ _ _)) ∙ mul-quad q _ _ _ _)
-      (ap (mul r) (row_is p' q' r' s' c d a b ∙ quad-turn _ _ _ _ ∙ quad-turn _ _ _ _) ∙ mul-quad r _ _ _ _)
-      (ap (mul s) (row_is p' q' r' s' d a b c ∙ quad-turn _ _ _ _) ∙ mul-quad s _ _ _ _)
-      ∙ quad-quad _ _ _ _ _ _ _ _ _ _ _ _ _ _ _ _
+      (ap (mul p) (row_is p' q' r' s' a b c d) ∙ mul_quad p _ _ _ _)
+      (ap (mul q) (row_is p' q' r' s' b c d a ∙ sym (quad_turn _ _ _ _)) ∙ mul_quad q _ _ _ _)
+      (ap (mul r) (row_is p' q' r' s' c d a b ∙ quad_turn _ _ _ _ ∙ quad_turn _ _ _ _) ∙ mul_quad r _ _ _ _)
+      (ap (mul s) (row_is p' q' r' s' d a b c ∙ quad_turn _ _ _ _) ∙ mul_quad s _ _ _ _)
+      ∙ quad_quad _ _ _ _ _ _ _ _ _ _ _ _ _ _ _ _
 
   pub col1_linear : Linear col1
-  col1_linear x y = quad_ap (two p p' x y) (two q s' x y) (two r r' x y) (two s q' x y) ∙ sym (quad-xor _ _ _ _ _ _ _ _)
+  col1_linear x y = quad_ap (two p p' x y) (two q s' x y) (two r r' x y) (two s q' x y) ∙ sym (quad_xor _ _ _ _ _ _ _ _)
 
   pub col2_linear : Linear col2
-  col2_linear x y = quad_ap (two p q' x y) (two q p' x y) (two r s' x y) (two s r' x y) ∙ sym (quad-xor _ _ _ _ _ _ _ _)
+  col2_linear x y = quad_ap (two p q' x y) (two q p' x y) (two r s' x y) (two s r' x y) ∙ sym (quad_xor _ _ _ _ _ _ _ _)
 
   pub col3_linear : Linear col3
-  col3_linear x y = quad_ap (two p r' x y) (two q q' x y) (two r p' x y) (two s s' x y) ∙ sym (quad-xor _ _ _ _ _ _ _ _)
+  col3_linear x y = quad_ap (two p r' x y) (two q q' x y) (two r p' x y) (two s s' x y) ∙ sym (quad_xor _ _ _ _ _ _ _ _)
 
   pub col4_linear : Linear col4
-  col4_linear x y = quad_ap (two p s' x y) (two q r' x y) (two r q' x y) (two s p' x y) ∙ sym (quad-xor _ _ _ _ _ _ _ _)
+  col4_linear x y = quad_ap (two p s' x y) (two q r' x y) (two r q' x y) (two s p' x y) ∙ sym (quad_xor _ _ _ _ _ _ _ _)
 
 -- each coefficient of the product of the two matrices: a test at the eight bits, and so at every byte
 module _ (x : ℕ) (h : x < 256) where
@@ -147,9 +147,9 @@ module _ (a b c d : ℕ) (ha : a < 256) (hb : b < 256) (hc : c < 256) (hd : d < 
   pub unmix_mix : unmix_row (mix_row a b c d) (mix_row b c d a) (mix_row c d a b) (mix_row d a b c) ≡ a
   unfolding mix_row unmix_row
   unmix_mix =
-      row-row 14 11 13 9 2 3 1 1 a b c d ∙ quad-first _ _ _ _ (u2 b hb) (u3 c hc) (u4 d hd) ∙ u1 a ha
+      row-row 14 11 13 9 2 3 1 1 a b c d ∙ quad_first _ _ _ _ (u2 b hb) (u3 c hc) (u4 d hd) ∙ u1 a ha
 
   pub mix_unmix : mix_row (unmix_row a b c d) (unmix_row b c d a) (unmix_row c d a b) (unmix_row d a b c) ≡ a
   unfolding mix_row unmix_row
   mix_unmix =
-      row-row 2 3 1 1 14 11 13 9 a b c d ∙ quad-first _ _ _ _ (m2 b hb) (m3 c hc) (m4 d hd) ∙ m1 a ha
+      row-row 2 3 1 1 14 11 13 9 a b c d ∙ quad_first _ _ _ _ (m2 b hb) (m3 c hc) (m4 d hd) ∙ m1 a ha

@@ -9,10 +9,10 @@ use Rattle.aes.specs.State.{shift_rows, unshift_rows, mix_columns, unmix_columns
 use Rattle.aes.specs.Cipher.{rounds, cipher, unrounds, inv_cipher}
 
 module _ (w : List ℕ) where
-  pub round-turn : (n : ℕ) (s t a b c d : List ℕ) → t ≡ rounds w n s → a ≡ sub_bytes t → b ≡ shift_rows a → c ≡ mix_columns b
+  pub round_turn : (n : ℕ) (s t a b c d : List ℕ) → t ≡ rounds w n s → a ≡ sub_bytes t → b ≡ shift_rows a → c ≡ mix_columns b
       → d ≡ add_round_key w (n + 1) c → d ≡ rounds w (n + 1) s
   unfolding rounds
-  round-turn n s t a b c d ht ha hb hc hd =
+  round_turn n s t a b c d ht ha hb hc hd =
       hd
       ∙ ap (λ (x : List ℕ). add_round_key w (n + 1) x)
       (hc ∙ ap mix_columns (hb ∙ ap shift_rows (ha ∙ ap sub_bytes ht)))
@@ -26,11 +26,11 @@ module _ (w : List ℕ) where
       ∙ ap (add_round_key w 10)
       (hb ∙ ap shift_rows (ha ∙ ap sub_bytes (ht ∙ ap (λ (m : ℕ). rounds w m u) hn ∙ ap (rounds w 9) hu)))
 
-  unrounds-back : (n : ℕ) (t : List ℕ) → 0 < n
+  unrounds_back : (n : ℕ) (t : List ℕ) → 0 < n
       → unrounds w (n - 1) (unmix_columns (add_round_key w n (unsub_bytes (unshift_rows t)))) ≡ unrounds w n t
   unfolding unrounds
-  unrounds-back zero t h = absurd (omega arith)
-  unrounds-back (suc n) t h =
+  unrounds_back zero t h = absurd (omega arith)
+  unrounds_back (suc n) t h =
       let e : suc n - 1 ≡ n = omega arith in
       ap (λ (m : ℕ). unrounds w m (unmix_columns (add_round_key w (suc n) (unsub_bytes (unshift_rows t))))) e
 
@@ -38,7 +38,7 @@ module _ (w : List ℕ) where
       → c ≡ add_round_key w n b → d ≡ unmix_columns c → unrounds w (n - 1) d ≡ s
   unround_turn n s t a b c d h hs ha hb hc hd =
       ap (unrounds w (n - 1)) (hd ∙ ap unmix_columns (hc ∙ ap (add_round_key w n) (hb ∙ ap unsub_bytes ha)))
-      ∙ unrounds-back n t h ∙ hs
+      ∙ unrounds_back n t h ∙ hs
 
   pub inv_cipher_end : (n : ℕ) (s u t a b r : List ℕ) → n ≡ 0 → u ≡ add_round_key w 10 s → unrounds w n t ≡ unrounds w 9 u
       → a ≡ unshift_rows t → b ≡ unsub_bytes a → r ≡ add_round_key w 0 b → r ≡ inv_cipher w s

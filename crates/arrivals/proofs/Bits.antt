@@ -46,9 +46,9 @@ max_odd =
 or_odd : (x y : ℕ) → bit_or x y % 2 ≡ max (x % 2) (y % 2)
 or_odd x y = omega (arith, or_step x y)
 
-pub mark-or : (a b k : ℕ) → mark_of (bit_or a b) k ≡ (mark_of a k || mark_of b k)
+pub mark_or : (a b k : ℕ) → mark_of (bit_or a b) k ≡ (mark_of a k || mark_of b k)
 unfolding mark_of
-mark-or a b k =
+mark_or a b k =
     ap (λ (x : ℕ). eqb (x % 2) 1) (or_shr a b k) ∙ ap (λ (x : ℕ). eqb x 1) (or_odd (a / 2 ^ k) (b / 2 ^ k))
     ∙ max_odd (a / 2 ^ k % 2) (odd_lt (a / 2 ^ k)) (b / 2 ^ k % 2) (odd_lt (b / 2 ^ k))
 
@@ -119,10 +119,10 @@ mark_bits f (suc w) k h =
         ap (λ (y : ℕ). eqb (x / 2 ^ y % 2) 1) e ∙ ap (λ (y : ℕ). eqb (y % 2) 1) (high (cond (f w) 1 0) w (bits_lt f w)) ∙ chosen_odd (f w) ∙ ap f (sym e)
 
 -- the one mark of 1 is the lowest
-pub mark-one : (k : ℕ) → mark_of 1 k ≡ eqb k 0
+pub mark_one : (k : ℕ) → mark_of 1 k ≡ eqb k 0
 unfolding mark_of
-mark-one zero = refl
-mark-one (suc k) = ap (λ (x : ℕ). eqb (x % 2) 1) (div-eq_of_lt (pow-lt {i = 0} {j = suc k} (omega arith))) ∙ sym (eqb-suc-zero k)
+mark_one zero = refl
+mark_one (suc k) = ap (λ (x : ℕ). eqb (x % 2) 1) (div-eq_of_lt (pow-lt {i = 0} {j = suc k} (omega arith))) ∙ sym (eqb-suc-zero k)
 
 -- the count of the ones is the count of the marks
 digit_ones : (d : ℕ) → d < 2 → ones d ≡ cond (eqb d 1) 1 0
@@ -136,5 +136,5 @@ ones_low s (suc w) =
     ap (λ (x : ℕ). ones (s % 2 ^ x)) (omega arith) ∙ ap ones (mod-pow-add s 1 w) ∙ ones_cat w (s / 2 ^ w % 2) (s % 2 ^ w) (mod-lt s (pow_pos w))
     ∙ add_comm (ones (s / 2 ^ w % 2)) (ones (s % 2 ^ w)) ∙ ap₂ ◌+◌ (ones_low s w) (digit_ones (s / 2 ^ w % 2) (odd_lt (s / 2 ^ w)))
 
-pub ones-marks : (s w : ℕ) → s < 2 ^ w → ones s ≡ count_below (mark_of s) w
-ones-marks s w h = ap ones (sym (mod-eq_of_lt h)) ∙ ones_low s w
+pub ones_marks : (s w : ℕ) → s < 2 ^ w → ones s ≡ count_below (mark_of s) w
+ones_marks s w h = ap ones (sym (mod-eq_of_lt h)) ∙ ones_low s w

@@ -45,9 +45,9 @@ numbers_taken (c ∷ cs) = with_taken (told c.answer.outcome) c.args.1.0 (number
 abbrev numbers_of : List TakeCall → List ℕ
 numbers_of cs = map (λ c. c.args.1.0) cs
 
-done-taken : {A : Type 0} (R : Res A) (n : ℕ) (ns : List ℕ) → with_taken (done R) n ns ≡ with_taken R n ns
-done-taken (refuse m v) n ns = refl
-done-taken (accept b) n ns = refl
+done_taken : {A : Type 0} (R : Res A) (n : ℕ) (ns : List ℕ) → with_taken (done R) n ns ≡ with_taken R n ns
+done_taken (refuse m v) n ns = refl
+done_taken (accept b) n ns = refl
 
 -- they take what the definition takes, and leave the record that it leaves
 calls_take : (a : Arrivals) (cs : List TakeCall) (r : Arrivals) → Taking a cs r
@@ -60,7 +60,7 @@ calls_take a (c ∷ cs) r (next b r' d ds e t) =
     let after : c.answer.arrivals ≡ kept_by (take_of a n) a = c.kept.record_left ∙ ap (λ (x : Arrivals). kept_by (take_of x n) x) e in (
       ap₂ (λ (R : Res Unit) (xs : List ℕ). with_taken R n xs) (c.kept.outcome ∙ ap (λ (x : Arrivals). done (take_of x n)) e)
           (rest.0 ∙ ap (λ (x : Arrivals). taken_of x (numbers_of cs)) after)
-          ∙ done-taken (take_of a n) n _,
+          ∙ done_taken (take_of a n) n _,
       rest.1 ∙ ap (λ (x : Arrivals). after_all x (numbers_of cs)) after,
     )
 

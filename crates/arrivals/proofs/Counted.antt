@@ -17,9 +17,9 @@ use Rattle.arrivals.specs.Marks.{mark_of, moved_up, count_below, count_of, marke
 use Rattle.arrivals.specs.Take.{fresh, too_old, taken, take_of, kept_by}
 use Rattle.arrivals.specs.Many.{after_all, with_taken, taken_of, highest_of, last_of}
 use Rattle.arrivals.specs.declared.Arrivals.{Arrivals}
-use Rattle.arrivals.proofs.Taking.{above_unmarked, below_unmarked, within-marked, young, eqb_same}
-use Rattle.arrivals.proofs.Promised.{take-marked, take-new}
-use Rattle.arrivals.proofs.Steps.{Tried, old, seen_before, new, tried, top_after, mark-after}
+use Rattle.arrivals.proofs.Taking.{above_unmarked, below_unmarked, within_marked, young, eqb_same}
+use Rattle.arrivals.proofs.Promised.{take-marked, take_new}
+use Rattle.arrivals.proofs.Steps.{Tried, old, seen_before, new, tried, top_after, mark_after}
 use Rattle.arrivals.proofs.Many.{each_once}
 
 -- whether one of some numbers lies k below h
@@ -32,10 +32,10 @@ record Says (a : Arrivals) (ts : List ℕ) : Type 0 where
   highest : a.highest ≡ highest_of ts
   marks : (k : ℕ) → k < 32 → mark_of a.seen k ≡ lies k a.highest ts
 
-highest-more : (ts : List ℕ) (n : ℕ) → highest_of (ts ++ n ∷ []) ≡ max (highest_of ts) n
+highest_more : (ts : List ℕ) (n : ℕ) → highest_of (ts ++ n ∷ []) ≡ max (highest_of ts) n
 unfolding highest_of
-highest-more [] n = max_comm n 0
-highest-more (x ∷ xs) n = ap (max x) (highest-more xs n) ∙ omega arith
+highest_more [] n = max_comm n 0
+highest_more (x ∷ xs) n = ap (max x) (highest_more xs n) ∙ omega arith
 
 lies_more : (k h : ℕ) (ts : List ℕ) (n : ℕ) → lies k h (ts ++ n ∷ []) ≡ (eqb (n + k) h || lies k h ts)
 lies_more k h [] n = refl
@@ -70,10 +70,10 @@ unfolding moved_up
 says-more a ts n s =
     let t = max a.highest n in
     record {
-      highest = top_after a n ∙ ap (λ (x : ℕ). max x n) s.highest ∙ sym (highest-more ts n);
+      highest = top_after a n ∙ ap (λ (x : ℕ). max x n) s.highest ∙ sym (highest_more ts n);
       marks =
           λ k h.
-          mark-after a n k h
+          mark_after a n k h
           ∙ ap (λ (b : Bool). eqb (n + k) t || b)
           (ap (λ (b : Bool). leb (t - a.highest) k && b) (s.marks (k - (t - a.highest)) (omega arith))
           ∙ lies-moved ts k a.highest t (omega (arith, s.highest)) (le-max_left a.highest n))
@@ -104,8 +104,8 @@ says : (ns : List ℕ) → Says (after_all fresh ns) (taken_of fresh ns)
 says ns = says_all fresh [] ns says_none
 
 -- the highest number of the record is the highest that was taken
-pub highest-taken : (ns : List ℕ) → (after_all fresh ns).highest ≡ highest_of (taken_of fresh ns)
-highest-taken ns = (says ns).highest
+pub highest_taken : (ns : List ℕ) → (after_all fresh ns).highest ≡ highest_of (taken_of fresh ns)
+highest_taken ns = (says ns).highest
 
 -- the number that lies as far below h as m does is m
 lies_at : (m h : ℕ) (ts : List ℕ) → m ≤ h → lies (h - m) h ts ≡ among m ts
@@ -121,9 +121,9 @@ none_above m (x ∷ xs) l =
     (none_above m xs (omega (arith, l, le-max_right x (highest_of xs))))
 
 -- it marks a number exactly when that was taken and is among the last 32
-pub marked-taken : (ns : List ℕ) (m : ℕ)
+pub marked_taken : (ns : List ℕ) (m : ℕ)
     → marked (after_all fresh ns) m ≡ (among m (taken_of fresh ns) && leb (highest_of (taken_of fresh ns)) (m + 31))
-marked-taken ns m = ⊎_elim above (λ l. ⊎_elim far (within l) (lt_or_le 31 (a.highest - m))) (lt_or_le a.highest m)
+marked_taken ns m = ⊎_elim above (λ l. ⊎_elim far (within l) (lt_or_le 31 (a.highest - m))) (lt_or_le a.highest m)
   where
     a : Arrivals
     a = after_all fresh ns
@@ -146,29 +146,29 @@ marked-taken ns m = ⊎_elim above (λ l. ⊎_elim far (within l) (lt_or_le 31 (
 
     within : m ≤ a.highest → a.highest - m ≤ 31 → Right
     within l g =
-        within-marked a m l g ∙ (says ns).marks (a.highest - m) (omega (arith, g)) ∙ lies_at m a.highest ts l ∙ sym (and-true (among m ts))
+        within_marked a m l g ∙ (says ns).marks (a.highest - m) (omega (arith, g)) ∙ lies_at m a.highest ts l ∙ sym (and-true (among m ts))
         ∙ ap (λ (b : Bool). among m ts && b) (sym (le-leb (highest_of ts) (m + 31) (omega (arith, e, g))))
 
 -- so a number that is not too old is refused where it was taken before, and is taken where it was not
 pub again : (ns : List ℕ) (m : ℕ) → too_old (after_all fresh ns) m ≡ false → among m (taken_of fresh ns) ≡ true → take_of (after_all fresh ns) m ≡ refuse 38 0
 again ns m o e =
-    let l : highest_of (taken_of fresh ns) ≤ m + 31 = subst (λ (x : ℕ). x ≤ m + 31) (highest-taken ns) (young (after_all fresh ns) m o).1 in
-    take-marked _ m o (marked-taken ns m ∙ ap₂ (λ (x y : Bool). x && y) e (le-leb (highest_of (taken_of fresh ns)) (m + 31) l))
+    let l : highest_of (taken_of fresh ns) ≤ m + 31 = subst (λ (x : ℕ). x ≤ m + 31) (highest_taken ns) (young (after_all fresh ns) m o).1 in
+    take-marked _ m o (marked_taken ns m ∙ ap₂ (λ (x y : Bool). x && y) e (le-leb (highest_of (taken_of fresh ns)) (m + 31) l))
 
 pub first_time : (ns : List ℕ) (m : ℕ) → too_old (after_all fresh ns) m ≡ false → among m (taken_of fresh ns) ≡ false
     → take_of (after_all fresh ns) m ≡ accept (taken (after_all fresh ns) m)
-first_time ns m o e = take-new _ m o (marked-taken ns m ∙ ap (λ (x : Bool). x && leb (highest_of (taken_of fresh ns)) (m + 31)) e)
+first_time ns m o e = take_new _ m o (marked_taken ns m ∙ ap (λ (x : Bool). x && leb (highest_of (taken_of fresh ns)) (m + 31)) e)
 
 -- the count of two things that exclude each other
-count-agree : (f g : ℕ → Bool) (w : ℕ) → ((k : ℕ) → k < w → f k ≡ g k) → count_below f w ≡ count_below g w
+count_agree : (f g : ℕ → Bool) (w : ℕ) → ((k : ℕ) → k < w → f k ≡ g k) → count_below f w ≡ count_below g w
 unfolding count_below
-count-agree f g zero e = refl
-count-agree f g (suc w) e = ap₂ ◌+◌ (count-agree f g w (λ k h. e k (omega arith))) (ap (λ (b : Bool). cond b 1 0) (e w (omega arith)))
+count_agree f g zero e = refl
+count_agree f g (suc w) e = ap₂ ◌+◌ (count_agree f g w (λ k h. e k (omega arith))) (ap (λ (b : Bool). cond b 1 0) (e w (omega arith)))
 
-count-or : (f g : ℕ → Bool) (w : ℕ) → ((k : ℕ) → f k ≡ true → g k ≡ false) → count_below (λ k. f k || g k) w ≡ count_below f w + count_below g w
+count_or : (f g : ℕ → Bool) (w : ℕ) → ((k : ℕ) → f k ≡ true → g k ≡ false) → count_below (λ k. f k || g k) w ≡ count_below f w + count_below g w
 unfolding count_below
-count-or f g zero e = refl
-count-or f g (suc w) e = omega (arith, count-or f g w e, both (f w) (g w) (e w))
+count_or f g zero e = refl
+count_or f g (suc w) e = omega (arith, count_or f g w e, both (f w) (g w) (e w))
   where
     both : (a b : Bool) → (a ≡ true → b ≡ false) → cond (a || b) 1 0 ≡ cond a 1 0 + cond b 1 0
     both true true h = absurd (true≢false (h refl))
@@ -176,11 +176,11 @@ count-or f g (suc w) e = omega (arith, count-or f g w e, both (f w) (g w) (e w))
     both false b h = omega arith
 
 -- one number lies at one place
-count-one : (x h w : ℕ) → x ≤ h → count_below (λ k. eqb (x + k) h) w ≡ cond (ltb (h - x) w) 1 0
+count_one : (x h w : ℕ) → x ≤ h → count_below (λ k. eqb (x + k) h) w ≡ cond (ltb (h - x) w) 1 0
 unfolding count_below
-count-one x h zero l = sym (ap (λ (b : Bool). cond b 1 0) (le-ltb (h - x) 0 (omega arith)))
-count-one x h (suc w) l =
-    ap (λ (y : ℕ). y + cond (eqb (x + w) h) 1 0) (count-one x h w l) ∙ ⊎_elim passed (λ g. ⊎_elim before (here g) (lt_or_le w (h - x))) (lt_or_le (h - x) w)
+count_one x h zero l = sym (ap (λ (b : Bool). cond b 1 0) (le-ltb (h - x) 0 (omega arith)))
+count_one x h (suc w) l =
+    ap (λ (y : ℕ). y + cond (eqb (x + w) h) 1 0) (count_one x h w l) ∙ ⊎_elim passed (λ g. ⊎_elim before (here g) (lt_or_le w (h - x))) (lt_or_le (h - x) w)
   where
     Sum : Type 0
     Sum = cond (ltb (h - x) w) 1 0 + cond (eqb (x + w) h) 1 0 ≡ cond (ltb (h - x) (suc w)) 1 0
@@ -199,29 +199,29 @@ count-one x h (suc w) l =
     here g f =
         sums false true true (le-ltb (h - x) w g) (eq-eqb (x + w) h (omega (arith, f, g, l))) (lt-ltb (h - x) (suc w) (omega arith)) refl
 
-or-none : (a b : Bool) → (a || b) ≡ false → (a ≡ false) × (b ≡ false)
-or-none true b e = absurd (true≢false e)
-or-none false b e = (refl, e)
+or_none : (a b : Bool) → (a || b) ≡ false → (a ≡ false) × (b ≡ false)
+or_none true b e = absurd (true≢false e)
+or_none false b e = (refl, e)
 
 -- numbers of which none is repeated lie at as many places as they are
 apart : (x k h : ℕ) (xs : List ℕ) → among x xs ≡ false → x + k ≡ h → lies k h xs ≡ false
 apart x k h [] n e = refl
 apart x k h (y ∷ ys) n e =
-    let m = or-none (eqb x y) (among x ys) n in
+    let m = or_none (eqb x y) (among x ys) n in
     ap₂ (λ (b c : Bool). b || c) (ne_eqb (y + k) h (λ f. eqb-false x y m.0 (omega (arith, e, f)))) (apart x k h ys m.1 e)
 
-count-lies : (h : ℕ) (ts : List ℕ) → unrepeated ts ≡ true → highest_of ts ≤ h → count_below (λ k. lies k h ts) 32 ≡ last_of h ts
+count_lies : (h : ℕ) (ts : List ℕ) → unrepeated ts ≡ true → highest_of ts ≤ h → count_below (λ k. lies k h ts) 32 ≡ last_of h ts
 unfolding last_of highest_of count_below
-count-lies h [] u b = none 32
+count_lies h [] u b = none 32
   where
     none : (w : ℕ) → count_below (λ _. false) w ≡ 0
     none zero = refl
     none (suc w) = omega (arith, none w)
-count-lies h (x ∷ xs) u b =
+count_lies h (x ∷ xs) u b =
     let m = and_inv (not (among x xs)) (unrepeated xs) u in
     let l : x ≤ h = omega (arith, b, le-max_left x (highest_of xs)) in
-    count-or (λ k. eqb (x + k) h) (λ k. lies k h xs) 32 (λ k e. apart x k h xs (not-true (among x xs) m.0) (eqb-true (x + k) h e))
-    ∙ ap₂ ◌+◌ (count-one x h 32 l ∙ ap (λ (b : Bool). cond b 1 0) (near l)) (count-lies h xs m.1 (omega (arith, b, le-max_right x (highest_of xs))))
+    count_or (λ k. eqb (x + k) h) (λ k. lies k h xs) 32 (λ k e. apart x k h xs (not-true (among x xs) m.0) (eqb-true (x + k) h e))
+    ∙ ap₂ ◌+◌ (count_one x h 32 l ∙ ap (λ (b : Bool). cond b 1 0) (near l)) (count_lies h xs m.1 (omega (arith, b, le-max_right x (highest_of xs))))
   where
     near : x ≤ h → ltb (h - x) 32 ≡ leb h (x + 31)
     near l =
@@ -229,14 +229,14 @@ count-lies h (x ∷ xs) u b =
         (lt_or_le (h - x) 32)
 
 -- the count of the marks is how many numbers among the last 32 were taken
-pub count-taken : (ns : List ℕ) → count_of (after_all fresh ns) ≡ last_of (highest_of (taken_of fresh ns)) (taken_of fresh ns)
-count-taken ns =
+pub count_taken : (ns : List ℕ) → count_of (after_all fresh ns) ≡ last_of (highest_of (taken_of fresh ns)) (taken_of fresh ns)
+count_taken ns =
     let s = says ns in
-    count-agree _ _ 32 s.marks ∙ count-lies _ (taken_of fresh ns) (each_once fresh ns) (le_of_eq (sym s.highest))
+    count_agree _ _ 32 s.marks ∙ count_lies _ (taken_of fresh ns) (each_once fresh ns) (le_of_eq (sym s.highest))
     ∙ ap (λ (h : ℕ). last_of h (taken_of fresh ns)) s.highest
 
 -- so is that of any record that some numbers leave of a new one
 pub counted : (a : Arrivals) → a ≡ fresh → (ts ns : List ℕ) (r : Arrivals) → ts ≡ taken_of a ns → r ≡ after_all a ns → count_of r ≡ last_of (highest_of ts) ts
 counted a n ts ns r e f =
-    ap count_of (f ∙ ap (λ (x : Arrivals). after_all x ns) n) ∙ count-taken ns
+    ap count_of (f ∙ ap (λ (x : Arrivals). after_all x ns) n) ∙ count_taken ns
     ∙ ap (λ (xs : List ℕ). last_of (highest_of xs) xs) (sym (e ∙ ap (λ (x : Arrivals). taken_of x ns) n))

@@ -14,8 +14,8 @@ use Rattle.arrivals.specs.Marks.{mark_of, moved_up, marked}
 use Rattle.arrivals.specs.Take.{too_old, taken, take_of, kept_by}
 use Rattle.arrivals.specs.declared.Arrivals.{Arrivals}
 use Rattle.arrivals.proofs.Bits.{mark_bits}
-use Rattle.arrivals.proofs.Taking.{above_unmarked, below_unmarked, within-marked, young, eqb_same, old-above, taken-above, moved-far}
-use Rattle.arrivals.proofs.Promised.{take-old, take-marked, take-new}
+use Rattle.arrivals.proofs.Taking.{above_unmarked, below_unmarked, within_marked, young, eqb_same, old_above, taken_above, moved_far}
+use Rattle.arrivals.proofs.Promised.{take_old, take-marked, take_new}
 
 -- what taking a number does, by the two tests
 pub data Tried (a : Arrivals) (n : ℕ) : Type 0 where
@@ -25,12 +25,12 @@ pub data Tried (a : Arrivals) (n : ℕ) : Type 0 where
 
 pub tried : (a : Arrivals) (n : ℕ) → Tried a n
 tried a n =
-    by_cases (too_old a n) (λ e. old e (take-old a n e))
-    (λ e. by_cases (marked a n) (λ f. seen_before f (take-marked a n e f)) (λ f. new e f (take-new a n e f)))
+    by_cases (too_old a n) (λ e. old e (take_old a n e))
+    (λ e. by_cases (marked a n) (λ f. seen_before f (take-marked a n e f)) (λ f. new e f (take_new a n e f)))
 
 -- it refuses by 39 or by 38
-pub take-numbers : (a : Arrivals) (n m v : ℕ) → take_of a n ≡ refuse m v → (m ≡ 39) ⊎ (m ≡ 38)
-take-numbers a n m v e = by (tried a n)
+pub take_numbers : (a : Arrivals) (n m v : ℕ) → take_of a n ≡ refuse m v → (m ≡ 39) ⊎ (m ≡ 38)
+take_numbers a n m v e = by (tried a n)
   where
     by : Tried a n → (m ≡ 39) ⊎ (m ≡ 38)
     by (old o f) = inl (let g = sym e ∙ f in cc)
@@ -43,15 +43,15 @@ unfolding taken
 top_after a n = refl
 
 -- and the marks
-pub mark-after : (a : Arrivals) (n k : ℕ) → k < 32
+pub mark_after : (a : Arrivals) (n k : ℕ) → k < 32
     → mark_of (taken a n).seen k ≡ (eqb (n + k) (max a.highest n) || moved_up a.seen (max a.highest n - a.highest) k)
 unfolding taken
-mark-after a n k h = mark_bits (λ k. eqb (n + k) (max a.highest n) || moved_up a.seen (max a.highest n - a.highest) k) 32 k h
+mark_after a n k h = mark_bits (λ k. eqb (n + k) (max a.highest n) || moved_up a.seen (max a.highest n - a.highest) k) 32 k h
 
 -- a number's mark, where the highest number has risen to t
-mark-kept : (a : Arrivals) (m t : ℕ) → a.highest ≤ t → m ≤ t → t - m ≤ 31 → moved_up a.seen (t - a.highest) (t - m) ≡ marked a m
+mark_kept : (a : Arrivals) (m t : ℕ) → a.highest ≤ t → m ≤ t → t - m ≤ 31 → moved_up a.seen (t - a.highest) (t - m) ≡ marked a m
 unfolding moved_up
-mark-kept a m t h l g = ⊎_elim higher not-higher (lt_or_le a.highest m)
+mark_kept a m t h l g = ⊎_elim higher not_higher (lt_or_le a.highest m)
   where
     moved : Bool → Bool
     moved b = b && mark_of a.seen (t - m - (t - a.highest))
@@ -59,15 +59,15 @@ mark-kept a m t h l g = ⊎_elim higher not-higher (lt_or_le a.highest m)
     higher : a.highest < m → moved (leb (t - a.highest) (t - m)) ≡ marked a m
     higher f = ap moved (lt-leb (t - a.highest) (t - m) (omega arith)) ∙ sym (above_unmarked a m f)
 
-    not-higher : m ≤ a.highest → moved (leb (t - a.highest) (t - m)) ≡ marked a m
-    not-higher f =
+    not_higher : m ≤ a.highest → moved (leb (t - a.highest) (t - m)) ≡ marked a m
+    not_higher f =
         let e : t - m - (t - a.highest) ≡ a.highest - m = omega arith in
-        ap moved (le-leb (t - a.highest) (t - m) (omega arith)) ∙ ap (mark_of a.seen) e ∙ sym (within-marked a m f (omega arith))
+        ap moved (le-leb (t - a.highest) (t - m) (omega arith)) ∙ ap (mark_of a.seen) e ∙ sym (within_marked a m f (omega arith))
 
 -- what the record says of a number m once n is taken: m is n, or was marked before and is still among the last 32
-pub marks-after : (a : Arrivals) (n m : ℕ) → too_old a n ≡ false
+pub marks_after : (a : Arrivals) (n m : ℕ) → too_old a n ≡ false
     → marked (taken a n) m ≡ (eqb m n || (marked a m && leb (taken a n).highest (m + 31)))
-marks-after a n m o = ⊎_elim above (λ l. ⊎_elim far (within l) (lt_or_le 31 (t - m))) (lt_or_le t m)
+marks_after a n m o = ⊎_elim above (λ l. ⊎_elim far (within l) (lt_or_le 31 (t - m))) (lt_or_le t m)
   where
     t : ℕ
     t = (taken a n).highest
@@ -94,26 +94,26 @@ marks-after a n m o = ⊎_elim above (λ l. ⊎_elim far (within l) (lt_or_le 31
 
     within : m ≤ t → t - m ≤ 31 → marked (taken a n) m ≡ said (eqb m n) (marked a m) (leb t (m + 31))
     within l g =
-        within-marked (taken a n) m l g ∙ mark-after a n (t - m) (omega (arith, g))
+        within_marked (taken a n) m l g ∙ mark_after a n (t - m) (omega (arith, g))
         ∙ ap₂ (λ (x z : Bool). x || z)
         (eqb_same (n + (t - m)) (max a.highest n) m n (λ f. omega (arith, e, l, f)) (λ f. omega (arith, e, l, f)))
-        (ap (λ (x : ℕ). moved_up a.seen (x - a.highest) (t - m)) (sym e) ∙ mark-kept a m t (omega (arith, e, le-max_left a.highest n)) l g
+        (ap (λ (x : ℕ). moved_up a.seen (x - a.highest) (t - m)) (sym e) ∙ mark_kept a m t (omega (arith, e, le-max_left a.highest n)) l g
         ∙ sym (ap (λ (z : Bool). marked a m && z) (le-leb t (m + 31) (omega (arith, g))) ∙ and-true (marked a m)))
 
 -- a higher number is taken, and the record moves up to it
 pub higher : (a : Arrivals) (n : ℕ) → a.highest < n → (take_of a n ≡ accept (taken a n)) × ((taken a n).highest ≡ n)
 higher a n h = (
-  take-new a n (sym (old-above a n (λ e. omega arith) (le_of_lt h))) (above_unmarked a n h),
+  take_new a n (sym (old_above a n (λ e. omega arith) (le_of_lt h))) (above_unmarked a n h),
   top_after a n ∙ max-eq_right (le_of_lt h),
 )
 
 -- where it is 32 or more above, its mark is the only one
 pub cleared : (a : Arrivals) (n : ℕ) → a.highest + 32 ≤ n → taken a n ≡ record { highest = n; seen = 1 }
-cleared a n h = sym (taken-above a n (omega arith) 1 (moved-far a.seen (n - a.highest) (omega arith)))
+cleared a n h = sym (taken_above a n (omega arith) 1 (moved_far a.seen (n - a.highest) (omega arith)))
 
 -- and nothing is higher than 4,294,967,295: there the record stays where it is
-pub no-higher : (a : Arrivals) (n : ℕ) → a.highest ≡ 4294967295 → n ≤ 4294967295 → (kept_by (take_of a n) a).highest ≡ 4294967295
-no-higher a n e h = stays (tried a n)
+pub no_higher : (a : Arrivals) (n : ℕ) → a.highest ≡ 4294967295 → n ≤ 4294967295 → (kept_by (take_of a n) a).highest ≡ 4294967295
+no_higher a n e h = stays (tried a n)
   where
     stays : Tried a n → (kept_by (take_of a n) a).highest ≡ 4294967295
     stays (old o f) = ap (λ (x : Res Arrivals). (kept_by x a).highest) f ∙ e

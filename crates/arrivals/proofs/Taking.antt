@@ -13,7 +13,7 @@ use Rattle.octets.proofs.Order.{by_cases, eq_or_not, lt_or_le}
 use Rattle.arrivals.specs.Marks.{mark_of, moved_up, bits_of, marked}
 use Rattle.arrivals.specs.Take.{too_old, taken}
 use Rattle.arrivals.specs.declared.Arrivals.{Arrivals}
-use Rattle.arrivals.proofs.Bits.{bits_known, bits_agree, mark-or, mark_shifted, mark-one}
+use Rattle.arrivals.proofs.Bits.{bits_known, bits_agree, mark_or, mark_shifted, mark_one}
 
 -- two tests of numbers that hold together are one test
 pub eqb_same : (a b c d : ℕ) → (a ≡ b → c ≡ d) → (c ≡ d → a ≡ b) → eqb a b ≡ eqb c d
@@ -25,13 +25,13 @@ ltb-same a b c d f g =
     (λ m. le-ltb a b m ∙ sym (⊎_elim (λ l. absurd (not-le_of_lt (g l) m)) (λ k. le-ltb c d k) (lt_or_le c d)))
     (lt_or_le a b)
 
-pub old-zero : (a : Arrivals) (n : ℕ) → n ≡ 0 → true ≡ too_old a n
+pub old_zero : (a : Arrivals) (n : ℕ) → n ≡ 0 → true ≡ too_old a n
 unfolding too_old
-old-zero a n e = sym (ap (λ (b : Bool). b || ltb (n + 31) a.highest) (eq-eqb n 0 e))
+old_zero a n e = sym (ap (λ (b : Bool). b || ltb (n + 31) a.highest) (eq-eqb n 0 e))
 
-pub old-above : (a : Arrivals) (n : ℕ) → (n ≡ 0 → ⊥) → a.highest ≤ n → false ≡ too_old a n
+pub old_above : (a : Arrivals) (n : ℕ) → (n ≡ 0 → ⊥) → a.highest ≤ n → false ≡ too_old a n
 unfolding too_old
-old-above a n e h = sym (ap (λ (b : Bool). b || ltb (n + 31) a.highest) (ne_eqb n 0 e) ∙ le-ltb (n + 31) a.highest (omega arith))
+old_above a n e h = sym (ap (λ (b : Bool). b || ltb (n + 31) a.highest) (ne_eqb n 0 e) ∙ le-ltb (n + 31) a.highest (omega arith))
 
 pub old_below : (a : Arrivals) (n : ℕ) → (n ≡ 0 → ⊥) → n < a.highest → ltb 31 (a.highest - n) ≡ too_old a n
 unfolding too_old
@@ -57,9 +57,9 @@ unfolding marked
 below_unmarked a n h =
     ap (λ (b : Bool). leb n a.highest && (b && mark_of a.seen (a.highest - n))) (le-ltb (a.highest - n) 32 h) ∙ and-false (leb n a.highest)
 
-pub within-marked : (a : Arrivals) (n : ℕ) → n ≤ a.highest → a.highest - n ≤ 31 → marked a n ≡ mark_of a.seen (a.highest - n)
+pub within_marked : (a : Arrivals) (n : ℕ) → n ≤ a.highest → a.highest - n ≤ 31 → marked a n ≡ mark_of a.seen (a.highest - n)
 unfolding marked
-within-marked a n h g = ap₂ (λ (b c : Bool). b && (c && mark_of a.seen (a.highest - n))) (le-leb n a.highest h) (lt-ltb (a.highest - n) 32 (omega arith))
+within_marked a n h g = ap₂ (λ (b c : Bool). b && (c && mark_of a.seen (a.highest - n))) (le-leb n a.highest h) (lt-ltb (a.highest - n) 32 (omega arith))
 
 -- a record that has the highest number and the marks is the one
 made : (a : Arrivals) (n : ℕ) (x : Arrivals) → x.highest ≡ max a.highest n
@@ -72,33 +72,33 @@ made a n x e f =
     }
 
 -- moving up by 32 or more leaves one mark, moving up by less shifts the marks
-pub moved-far : (s d : ℕ) → 31 < d → 1 ≡ bits_of (λ k. eqb k 0 || moved_up s d k) 32
+pub moved_far : (s d : ℕ) → 31 < d → 1 ≡ bits_of (λ k. eqb k 0 || moved_up s d k) 32
 unfolding moved_up
-moved-far s d h =
+moved_far s d h =
     bits_known 1 32 _ (lit< tt)
-    (λ k l. mark-one k ∙ sym (ap (λ (b : Bool). eqb k 0 || (b && mark_of s (k - d))) (lt-leb d k (omega arith)) ∙ or-false (eqb k 0)))
+    (λ k l. mark_one k ∙ sym (ap (λ (b : Bool). eqb k 0 || (b && mark_of s (k - d))) (lt-leb d k (omega arith)) ∙ or-false (eqb k 0)))
 
-pub moved-near : (s d : ℕ) → bit_or (s * 2 ^ d % 2 ^ 32) 1 ≡ bits_of (λ k. eqb k 0 || moved_up s d k) 32
+pub moved_near : (s d : ℕ) → bit_or (s * 2 ^ d % 2 ^ 32) 1 ≡ bits_of (λ k. eqb k 0 || moved_up s d k) 32
 unfolding moved_up
-moved-near s d =
+moved_near s d =
     bits_known _ 32 _ (or_lt 32 _ 1 (mod-lt (s * 2 ^ d) (pow_pos 32)) (lit< tt))
-    (λ k l. mark-or _ 1 k ∙ ap₂ (λ (b c : Bool). b || c) (mark_shifted s d 32 k l) (mark-one k) ∙ or_comm _ (eqb k 0))
+    (λ k l. mark_or _ 1 k ∙ ap₂ (λ (b c : Bool). b || c) (mark_shifted s d 32 k l) (mark_one k) ∙ or_comm _ (eqb k 0))
 
 -- a higher number
-pub taken-above : (a : Arrivals) (n : ℕ) → a.highest < n → (s : ℕ) → s ≡ bits_of (λ k. eqb k 0 || moved_up a.seen (n - a.highest) k) 32
+pub taken_above : (a : Arrivals) (n : ℕ) → a.highest < n → (s : ℕ) → s ≡ bits_of (λ k. eqb k 0 || moved_up a.seen (n - a.highest) k) 32
     → record { highest = n; seen = s } ≡ taken a n
-taken-above a n h s e =
+taken_above a n h s e =
     made a n (record { highest = n; seen = s }) (sym (max-eq_right (le_of_lt h)))
     (e ∙ bits_agree _ _ 32 (λ k _. ap (λ (b : Bool). b || moved_up a.seen (n - a.highest) k) (eqb_same k 0 (n + k) n (λ z. omega arith) (λ z. omega arith))))
 
 -- a lower one, whose mark is set where it belongs
-pub taken-below : (a : Arrivals) (n : ℕ) → n ≤ a.highest → a.highest - n ≤ 31 → a.seen < 2 ^ 32
+pub taken_below : (a : Arrivals) (n : ℕ) → n ≤ a.highest → a.highest - n ≤ 31 → a.seen < 2 ^ 32
     → record { highest = a.highest; seen = bit_or a.seen (1 * 2 ^ (a.highest - n) % 2 ^ 32) } ≡ taken a n
 unfolding moved_up
-taken-below a n h g f =
+taken_below a n h g f =
     made a n _ (sym (max-eq_left h))
     (bits_known _ 32 _ (or_lt 32 _ _ f (mod-lt _ (pow_pos 32)))
-    (λ k l. mark-or _ _ k ∙ ap₂ (λ (b c : Bool). b || c) (sym (unmoved k)) (mark_shifted 1 (a.highest - n) 32 k l ∙ placed k)
+    (λ k l. mark_or _ _ k ∙ ap₂ (λ (b c : Bool). b || c) (sym (unmoved k)) (mark_shifted 1 (a.highest - n) 32 k l ∙ placed k)
     ∙ or_comm _ (eqb (n + k) a.highest)))
   where
     unmoved : (k : ℕ) → (leb (a.highest - a.highest) k && mark_of a.seen (k - (a.highest - a.highest))) ≡ mark_of a.seen k
@@ -110,6 +110,6 @@ taken-below a n h g f =
     placed k =
         ⊎_elim
         (λ l. ap (λ (b : Bool). b && mark_of 1 (k - (a.highest - n))) (lt-leb _ k l) ∙ sym (ne_eqb (n + k) a.highest (λ e. omega arith)))
-        (λ l. ap (λ (b : Bool). b && mark_of 1 (k - (a.highest - n))) (le-leb _ k l) ∙ mark-one _
+        (λ l. ap (λ (b : Bool). b && mark_of 1 (k - (a.highest - n))) (le-leb _ k l) ∙ mark_one _
         ∙ eqb_same _ 0 (n + k) _ (λ (e : k - (a.highest - n) ≡ 0). omega arith) (λ (e : n + k ≡ a.highest). omega arith))
         (lt_or_le k (a.highest - n))

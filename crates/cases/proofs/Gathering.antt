@@ -18,14 +18,14 @@ use Rattle.cases.specs.Fields.{part_of}
 use Rattle.cases.specs.Input.{left, found, ends, GatherPromise, line_of}
 use Rattle.cases.specs.declared.input.Input.{Input}
 use Rattle.octets.proofs.Order.{by_cases, cond_true, cond_false}
-use Rattle.cases.proofs.Parts.{part_there, part-past, part_turned}
-use Rattle.cases.proofs.Walk.{upto-short}
+use Rattle.cases.proofs.Parts.{part_there, part_past, part_turned}
+use Rattle.cases.proofs.Walk.{upto_short}
 
 -- what is left of the piece lies in it, if it is something
 module _ (piece : List ℕ) (a e : ℕ) where
-  left-fits : 0 < length (part_of piece a e) → a + length (part_of piece a e) ≡ e
+  left_fits : 0 < length (part_of piece a e) → a + length (part_of piece a e) ≡ e
   unfolding part_of
-  left-fits h =
+  left_fits h =
       by_cases (leb a e)
       (λ (f : leb a e ≡ true).
       by_cases (leb e (length piece))
@@ -35,14 +35,14 @@ module _ (piece : List ℕ) (a e : ℕ) where
       let u : length (part_of piece a e) ≡ e - a = ap length (sym (part_there piece a e (leb-true a e f) (leb-true e (length piece) g))) ∙ t in
       omega (arith, leb-true a e f))
       (λ (g : leb e (length piece) ≡ false).
-      absurd (omega (arith, ap length (sym (part-past piece a e (leb-true a e f) (leb-false e (length piece) g)))))))
+      absurd (omega (arith, ap length (sym (part_past piece a e (leb-true a e f) (leb-false e (length piece) g)))))))
       (λ (f : leb a e ≡ false). absurd (omega (arith, ap length (sym (part_turned piece a e (leb-false a e f))))))
 
 -- behind the newline there is still the piece's end
-pub gather-room : (piece p : List ℕ) (a e n : ℕ) → p ≡ part_of piece a e → n < length p → a + n + 1 ≤ e
-gather-room piece p a e n f h =
+pub gather_room : (piece p : List ℕ) (a e n : ℕ) → p ≡ part_of piece a e → n < length p → a + n + 1 ≤ e
+gather_room piece p a e n f h =
     let k : length p ≡ length (part_of piece a e) = ap length f in
-    omega (arith, left-fits piece a e (omega arith))
+    omega (arith, left_fits piece a e (omega arith))
 
 -- what is known where a turn ends: p is what is left of the piece, q what it has of the line, n characters
 module _ (s : Input) (piece line p q : List ℕ) (n : ℕ) (f : p ≡ left s piece) (g : n ≡ 0 + length (upto 0x0a p)) (k : q ≡ part_of p 0 n) where
@@ -50,7 +50,7 @@ module _ (s : Input) (piece line p q : List ℕ) (n : ℕ) (f : p ≡ left s pie
   found_is =
       let z : n - 0 ≡ length (upto 0x0a p) = omega arith in
       let h : 0 ≤ n = omega arith in
-      let m : n ≤ length p = omega (arith, upto-short 0x0a p) in
+      let m : n ≤ length p = omega (arith, upto_short 0x0a p) in
       k
       ∙ sym (part_there p 0 n h m)
       ∙ ap (λ (j : ℕ). take j p) z
@@ -73,8 +73,8 @@ module _ (s : Input) (piece line p q : List ℕ) (n : ℕ) (f : p ≡ left s pie
         let o = cond_true (ends s piece) (s.from + suc (length (found s piece))) s.to t in
         record { added = added; from = z ∙ sym o; to = refl; whole = sym t }
 
-    pub gather-on : length p ≤ n → GatherPromise s piece line (record { from = s.to; to = s.to; line = c; whole = false }) x
-    gather-on h =
+    pub gather_on : length p ≤ n → GatherPromise s piece line (record { from = s.to; to = s.to; line = c; whole = false }) x
+    gather_on h =
         let t : ends s piece ≡ false = le-ltb (length (found s piece)) (length (left s piece)) (omega (arith, count_is.0, count_is.1)) in
         let o = cond_false (ends s piece) (s.from + suc (length (found s piece))) s.to t in
         record { added = added; from = sym o; to = refl; whole = sym t }

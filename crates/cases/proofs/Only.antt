@@ -32,102 +32,102 @@ use Rattle.cases.proofs.input.gather.Reads as gather-reads
 use Rattle.cases.proofs.input.pick_line.Reads as pick-line-reads
 
 -- parts that are handed out
-pub pick_part-only : (κs : _) (args : _) (a b : _) (s t : _) → pick-part-reads.Post κs args a s → pick-part-reads.Post κs args b t
+pub pick_part_only : (κs : _) (args : _) (a b : _) (s t : _) → pick-part-reads.Post κs args a s → pick-part-reads.Post κs args b t
     → (a.now ≡ b.now) × (a.ref_ptr.0 ≡ b.ref_ptr.0) × (a.ref_ptr.1 ≡ b.ref_ptr.1)
-pick_part-only κs args a b s t p q = (p.0 ∙ sym q.0, p.1 ∙ sym q.1, p.2 ∙ sym q.2)
+pick_part_only κs args a b s t p q = (p.0 ∙ sym q.0, p.1 ∙ sym q.1, p.2 ∙ sym q.2)
 
-pub pick_field-only : (κs : _) (args : _) (a b : _) (s t : _) → pick-field-reads.Post κs args a s → pick-field-reads.Post κs args b t
+pub pick_field_only : (κs : _) (args : _) (a b : _) (s t : _) → pick-field-reads.Post κs args a s → pick-field-reads.Post κs args b t
     → (a.now ≡ b.now) × (a.ref_ptr.0 ≡ b.ref_ptr.0) × (a.ref_ptr.1 ≡ b.ref_ptr.1)
-pick_field-only κs args a b s t p q = (p.0 ∙ sym q.0, p.1 ∙ sym q.1, p.2 ∙ sym q.2)
+pick_field_only κs args a b s t p q = (p.0 ∙ sym q.0, p.1 ∙ sym q.1, p.2 ∙ sym q.2)
 
-pub pick_line-only : (κs : _) (args : _) (a b : _) (s t : _) → pick-line-reads.Post κs args a s → pick-line-reads.Post κs args b t
+pub pick_line_only : (κs : _) (args : _) (a b : _) (s t : _) → pick-line-reads.Post κs args a s → pick-line-reads.Post κs args b t
     → (a.now ≡ b.now) × (a.ref_ptr.0 ≡ b.ref_ptr.0) × (a.ref_ptr.1 ≡ b.ref_ptr.1)
-pick_line-only κs args a b s t p q = (p.0 ∙ sym q.0, p.1 ∙ sym q.1, p.2 ∙ sym q.2)
+pick_line_only κs args a b s t p q = (p.0 ∙ sym q.0, p.1 ∙ sym q.1, p.2 ∙ sym q.2)
 
-pub pass_field-only : (κs : _) (args : _) (a b : _) (s t : _) → pass-field-reads.Post κs args a s → pass-field-reads.Post κs args b t → a ≡ b
-pass_field-only κs args a b s t p q = p ∙ sym q
+pub pass_field_only : (κs : _) (args : _) (a b : _) (s t : _) → pass-field-reads.Post κs args a s → pass-field-reads.Post κs args b t → a ≡ b
+pass_field_only κs args a b s t p q = p ∙ sym q
 
 -- what a field says
-pub look_up-only : (κs : _) (args : _) (a b : _) (s t : _) → look-up-reads.Post κs args a s → look-up-reads.Post κs args b t → a ≡ b
-look_up-only κs args a b s t p q = p ∙ sym q
+pub look_up_only : (κs : _) (args : _) (a b : _) (s t : _) → look-up-reads.Post κs args a s → look-up-reads.Post κs args b t → a ≡ b
+look_up_only κs args a b s t p q = p ∙ sym q
 
-pub read_bytes-only : (κs : _) (args : _) (a b : _) (s t : _) → read-bytes-reads.Post κs args a s → read-bytes-reads.Post κs args b t
+pub read_bytes_only : (κs : _) (args : _) (a b : _) (s t : _) → read-bytes-reads.Post κs args a s → read-bytes-reads.Post κs args b t
     → (a ≡ b) × (s.1.1.0.now ≡ t.1.1.0.now)
-read_bytes-only κs args a b s t p q = (p.answer ∙ sym q.answer, p.buffer ∙ sym q.buffer)
+read_bytes_only κs args a b s t p q = (p.answer ∙ sym q.answer, p.buffer ∙ sym q.buffer)
 
 exact_one : (n : ℕ) (s : List ℕ) (e f : Bool) (x y : List ℕ) → ExactPromise n s e x → ExactPromise n s f y → (e ≡ f) × (x ≡ y)
 exact_one n s e f x y p q = (p.answer ∙ sym q.answer, p.buffer ∙ sym q.buffer)
 
-pub read_block-only : (κs : _) (args : _) (a b : Block) (s t : _)
+pub read_block_only : (κs : _) (args : _) (a b : Block) (s t : _)
     → read-block-reads.Post κs args a s → read-block-reads.Post κs args b t → a ≡ b
-read_block-only κs args a b s t p q =
+read_block_only κs args a b s t p q =
     let h = exact_one 16 _ _ _ _ _ p q in
     ap₂ (λ (e : Bool) (x : List ℕ). let r : Block = record { bad = e; bytes = x } in r) h.0 h.1
 
-pub read_sik-only : (κs : _) (args : _) (a b : Sik) (s t : _)
+pub read_sik_only : (κs : _) (args : _) (a b : Sik) (s t : _)
     → read-sik-reads.Post κs args a s → read-sik-reads.Post κs args b t → a ≡ b
-read_sik-only κs args a b s t p q =
+read_sik_only κs args a b s t p q =
     let h = exact_one 20 _ _ _ _ _ p q in
     ap₂ (λ (e : Bool) (x : List ℕ). let r : Sik = record { bad = e; bytes = x } in r) h.0 h.1
 
-pub read_decimal-only : (κs : _) (args : _) (a b : _) (s t : _)
+pub read_decimal_only : (κs : _) (args : _) (a b : _) (s t : _)
     → read-decimal-reads.Post κs args a s → read-decimal-reads.Post κs args b t → a ≡ b
-read_decimal-only κs args a b s t p q = p ∙ sym q
+read_decimal_only κs args a b s t p q = p ∙ sym q
 
-pub read_id-only : (κs : _) (args : _) (a b : _) (s t : _) → read-id-reads.Post κs args a s → read-id-reads.Post κs args b t → a ≡ b
-read_id-only κs args a b s t p q = p ∙ sym q
+pub read_id_only : (κs : _) (args : _) (a b : _) (s t : _) → read-id-reads.Post κs args a s → read-id-reads.Post κs args b t → a ≡ b
+read_id_only κs args a b s t p q = p ∙ sym q
 
-pub read_room-only : (κs : _) (args : _) (a b : _) (s t : _) → read-room-reads.Post κs args a s → read-room-reads.Post κs args b t → a ≡ b
-read_room-only κs args a b s t p q = p ∙ sym q
+pub read_room_only : (κs : _) (args : _) (a b : _) (s t : _) → read-room-reads.Post κs args a s → read-room-reads.Post κs args b t → a ≡ b
+read_room_only κs args a b s t p q = p ∙ sym q
 
 -- what is said: each piece leaves one cursor and one buffer
-said-one : (ps : List (List ℕ)) (d : List ℕ) (c a b : Cursor) (x y : List ℕ) → Said d c ps a x → Said d c ps b y → (a ≡ b) × (x ≡ y)
-said-one [] d c a b x y p q = (p.0 ∙ sym q.0, p.1 ∙ sym q.1)
-said-one (m ∷ ps) d c a b x y p q =
+said_one : (ps : List (List ℕ)) (d : List ℕ) (c a b : Cursor) (x y : List ℕ) → Said d c ps a x → Said d c ps b y → (a ≡ b) × (x ≡ y)
+said_one [] d c a b x y p q = (p.0 ∙ sym q.0, p.1 ∙ sym q.1)
+said_one (m ∷ ps) d c a b x y p q =
     let e = add_promise_only d c m p.0 q.0 p.1 q.1 p.2 q.2 in
     let r = subst (λ (k : Cursor). Said p.1 k ps a x) e.0 p.3 in
-    said-one ps q.1 q.0 a b x y (subst (λ (k : List ℕ). Said k q.0 ps a x) e.1 r) q.3
+    said_one ps q.1 q.0 a b x y (subst (λ (k : List ℕ). Said k q.0 ps a x) e.1 r) q.3
 
-say-one : (ps : List (List ℕ)) (d : List ℕ) (c a b : Cursor) (x y : List ℕ) → SayPromise d c ps a x → SayPromise d c ps b y → (a ≡ b) × (x ≡ y)
-say-one ps d c a b x y p q = said-one ps d c a b x y p.said q.said
+say_one : (ps : List (List ℕ)) (d : List ℕ) (c a b : Cursor) (x y : List ℕ) → SayPromise d c ps a x → SayPromise d c ps b y → (a ≡ b) × (x ≡ y)
+say_one ps d c a b x y p q = said_one ps d c a b x y p.said q.said
 
-pub say_bytes-only : (κs : _) (args : _) (a b : _) (s t : _) → say-bytes-reads.Post κs args a s → say-bytes-reads.Post κs args b t
+pub say_bytes_only : (κs : _) (args : _) (a b : _) (s t : _) → say-bytes-reads.Post κs args a s → say-bytes-reads.Post κs args b t
     → (a ≡ b) × (s.0.now ≡ t.0.now)
-say_bytes-only κs args a b s t p q = say-one _ _ _ a b _ _ p q
+say_bytes_only κs args a b s t p q = say_one _ _ _ a b _ _ p q
 
-pub say_number-only : (κs : _) (args : _) (a b : _) (s t : _) → say-number-reads.Post κs args a s → say-number-reads.Post κs args b t
+pub say_number_only : (κs : _) (args : _) (a b : _) (s t : _) → say-number-reads.Post κs args a s → say-number-reads.Post κs args b t
     → (a ≡ b) × (s.0.now ≡ t.0.now)
-say_number-only κs args a b s t p q = say-one _ _ _ a b _ _ p q
+say_number_only κs args a b s t p q = say_one _ _ _ a b _ _ p q
 
-pub say_id-only : (κs : _) (args : _) (a b : _) (s t : _) → say-id-reads.Post κs args a s → say-id-reads.Post κs args b t
+pub say_id_only : (κs : _) (args : _) (a b : _) (s t : _) → say-id-reads.Post κs args a s → say-id-reads.Post κs args b t
     → (a ≡ b) × (s.0.now ≡ t.0.now)
-say_id-only κs args a b s t p q = say-one _ _ _ a b _ _ p q
+say_id_only κs args a b s t p q = say_one _ _ _ a b _ _ p q
 
-pub say_refusal-only : (κs : _) (args : _) (a b : _) (s t : _) → say-refusal-reads.Post κs args a s → say-refusal-reads.Post κs args b t
+pub say_refusal_only : (κs : _) (args : _) (a b : _) (s t : _) → say-refusal-reads.Post κs args a s → say-refusal-reads.Post κs args b t
     → (a ≡ b) × (s.0.now ≡ t.0.now)
-say_refusal-only κs args a b s t p q = say-one _ _ _ a b _ _ p q
+say_refusal_only κs args a b s t p q = say_one _ _ _ a b _ _ p q
 
-pub say_spill-only : (κs : _) (args : _) (a b : _) (s t : _) → say-spill-reads.Post κs args a s → say-spill-reads.Post κs args b t
+pub say_spill_only : (κs : _) (args : _) (a b : _) (s t : _) → say-spill-reads.Post κs args a s → say-spill-reads.Post κs args b t
     → (a ≡ b) × (s.0.now ≡ t.0.now)
-say_spill-only κs args a b s t p q = say-one _ _ _ a b _ _ p q
+say_spill_only κs args a b s t p q = say_one _ _ _ a b _ _ p q
 
 -- the room, and the line
-pub fill_room-only : (κs : _) (args : _) (a b : _) (s t : _) → fill-room-reads.Post κs args a s → fill-room-reads.Post κs args b t
+pub fill_room_only : (κs : _) (args : _) (a b : _) (s t : _) → fill-room-reads.Post κs args a s → fill-room-reads.Post κs args b t
     → s.0.now ≡ t.0.now
-fill_room-only κs args a b s t p q = p ∙ sym q
+fill_room_only κs args a b s t p q = p ∙ sym q
 
 abbrev whole : ℕ → ℕ → Cursor → Bool → Input
 whole n m c w = record { from = n; to = m; line = c; whole = w }
 
-gather-one : (s : Input) (piece line : List ℕ) (a b : Input) (x y : List ℕ)
+gather_one : (s : Input) (piece line : List ℕ) (a b : Input) (x y : List ℕ)
     → GatherPromise s piece line a x → GatherPromise s piece line b y → (a ≡ b) × (x ≡ y)
-gather-one s piece line a b x y p q =
+gather_one s piece line a b x y p q =
     let e = add_promise_only _ _ _ a.line b.line x y p.added q.added in
     let f : whole a.from a.to a.line a.whole ≡ whole b.from b.to b.line b.whole =
     ap₂ (λ (n m : ℕ). whole n m a.line a.whole) (p.from ∙ sym q.from) (p.to ∙ sym q.to)
     ∙ ap₂ (λ (c : Cursor) (w : Bool). whole b.from b.to c w) e.0 (p.whole ∙ sym q.whole) in
     (f, e.1)
 
-pub gather-only : (κs : _) (args : _) (a b : _) (s t : _) → gather-reads.Post κs args a s → gather-reads.Post κs args b t
+pub gather_only : (κs : _) (args : _) (a b : _) (s t : _) → gather-reads.Post κs args a s → gather-reads.Post κs args b t
     → (a ≡ b) × (s.1.1.0.now ≡ t.1.1.0.now)
-gather-only κs args a b s t p q = gather-one _ _ _ a b _ _ p q
+gather_only κs args a b s t p q = gather_one _ _ _ a b _ _ p q

@@ -13,29 +13,29 @@ module _ (l : List ℕ) (a e : ℕ) where
     unfolding part_of
     part_there = rw (le-leb a e h, le-leb e (length l) k)
 
-    pub part_at-inside : part_at l a e ≡ a
+    pub part_at_inside : part_at l a e ≡ a
     unfolding part_at
-    part_at-inside = rw (le-leb a e h, le-leb e (length l) k)
+    part_at_inside = rw (le-leb a e h, le-leb e (length l) k)
 
   module _ (h : a ≤ e) (k : length l < e) where
-    pub part-past : [] ≡ part_of l a e
+    pub part_past : [] ≡ part_of l a e
     unfolding part_of
-    part-past = rw (le-leb a e h, lt-leb e (length l) k)
+    part_past = rw (le-leb a e h, lt-leb e (length l) k)
 
-    pub part-past-at : part_at l a e ≡ 0
+    pub part_past_at : part_at l a e ≡ 0
     unfolding part_at
-    part-past-at = rw (le-leb a e h, lt-leb e (length l) k)
+    part_past_at = rw (le-leb a e h, lt-leb e (length l) k)
 
   module _ (h : e < a) where
     pub part_turned : [] ≡ part_of l a e
     unfolding part_of
     part_turned = rw (lt-leb a e h)
 
-    pub part_turned-at : part_at l a e ≡ 0
+    pub part_turned_at : part_at l a e ≡ 0
     unfolding part_at
-    part_turned-at = rw (lt-leb a e h)
+    part_turned_at = rw (lt-leb a e h)
 
 -- a part from the start on begins at the start, also where it is none
-pub start-at : (l : List ℕ) (e : ℕ) → part_at l 0 e ≡ 0
+pub start_at : (l : List ℕ) (e : ℕ) → part_at l 0 e ≡ 0
 unfolding part_at
-start-at l e = by_cases (lies l 0 e) (cond_true (lies l 0 e) 0 0) (cond_false (lies l 0 e) 0 0)
+start_at l e = by_cases (lies l 0 e) (cond_true (lies l 0 e) 0 0) (cond_false (lies l 0 e) 0 0)

@@ -10,7 +10,7 @@ use borrow.Author.Tests.{le-leb, lt-ltb, leb-true, eq-eqb, eqb-true, ne_eqb}
 use Rattle.octets.specs.Place.{fits, placed}
 use Rattle.octets.specs.Equal.{same}
 use Rattle.octets.proofs.Equal.{and_inv, same_true}
-use Rattle.octets.proofs.Filled.{filled-long, put-filled}
+use Rattle.octets.proofs.Filled.{filled_long, put_filled}
 use Rattle.text.specs.Digits.{pairs}
 use Rattle.text.specs.Promise.{hexed, number_in, word_in, UnhexPromise}
 use Rattle.text.specs.declared.read.Number.{Number}
@@ -43,9 +43,9 @@ told a unhexed.NoRoom = none a
 
 module _ (d : List ℕ) (a : ℕ) (s : List ℕ) where
   -- `-` says no bytes
-  pub bytes-dash : same s dash ≡ true → BytesPromise d a s (good a a) d
+  pub bytes_dash : same s dash ≡ true → BytesPromise d a s (good a a) d
   unfolding span_of
-  bytes-dash e =
+  bytes_dash e =
       record {
         answer = sym (cond_true (same s dash) (good a a) _ e);
         buffer = sym (cond_false (hexed s) (placed d a (pairs s)) d (dash_odd s e));
@@ -65,9 +65,9 @@ module _ (d : List ℕ) (a : ℕ) (s : List ℕ) where
   by_tests true false n = sym (ap (λ (t : Bool). cond t (good a (a + n)) (none a)) (and-false (ltb 0 n)))
 
   -- anything else is what `unhex` makes of it
-  pub bytes-hex : (u : Unhexed) (x : List ℕ) → same s dash ≡ false → UnhexPromise d a s u x → BytesPromise d a s (told a u) x
+  pub bytes_hex : (u : Unhexed) (x : List ℕ) → same s dash ≡ false → UnhexPromise d a s u x → BytesPromise d a s (told a u) x
   unfolding span_of readable
-  bytes-hex u x e p =
+  bytes_hex u x e p =
       let m = length (pairs s) in
       record {
         answer = ap (told a) p.answer ∙ by_tests (hexed s) (fits d a m) m ∙ sym (cond_false (same s dash) (good a a) _ e);
@@ -85,8 +85,8 @@ module _ (d : List ℕ) (a : ℕ) (s : List ℕ) where
       fit false f g q = let z : ◌≡◌ {A = ℕ} 0 1 = cc in absurd (omega arith)
 
 -- a promise kept for a text is kept for one that is equal
-pub bytes_promise-along : (d : List ℕ) (a : ℕ) (s t : List ℕ) (r : Span) (x : List ℕ) → s ≡ t → BytesPromise d a s r x → BytesPromise d a t r x
-bytes_promise-along d a s t r x e p = rw e at p
+pub bytes_promise_along : (d : List ℕ) (a : ℕ) (s t : List ℕ) (r : Span) (x : List ℕ) → s ≡ t → BytesPromise d a s r x → BytesPromise d a t r x
+bytes_promise_along d a s t r x e p = rw e at p
 
 -- exactly n bytes were read where they end at n
 module _ (n : ℕ) (h : 0 < n) where
@@ -103,44 +103,44 @@ module _ (n : ℕ) (h : 0 < n) where
       let g : 0 + m ≤ length (replicate {A = ℕ} n 0) = omega (arith, length-replicate {A = ℕ} n 0) in
       rw (lt-ltb 0 m f, le-leb (0 + m) (length (replicate {A = ℕ} n 0)) g)
 
-  by-hex : (b : Bool) (m : ℕ) → eqb (cond (b && (ltb 0 m && fits (replicate n 0) 0 m)) (good 0 (0 + m)) (none 0)).to n ≡ (b && eqb m n)
-  by-hex true m = by_end m (ltb 0 m && fits (replicate n 0) 0 m) (room m)
-  by-hex false m = zero-not
+  by_hex : (b : Bool) (m : ℕ) → eqb (cond (b && (ltb 0 m && fits (replicate n 0) 0 m)) (good 0 (0 + m)) (none 0)).to n ≡ (b && eqb m n)
+  by_hex true m = by_end m (ltb 0 m && fits (replicate n 0) 0 m) (room m)
+  by_hex false m = zero-not
 
   end_exact : (s : List ℕ) → eqb (span_of (replicate n 0) 0 s).to n ≡ says n s
   unfolding span_of readable
   end_exact s =
       by_cases (same s dash)
       (λ (e : same s dash ≡ true). rw (e, dash_odd s e) zero-not)
-      (λ (e : same s dash ≡ false). rw e (by-hex (hexed s) (length (pairs s))))
+      (λ (e : same s dash ≡ false). rw e (by_hex (hexed s) (length (pairs s))))
 
   module _ (s : List ℕ) (p : Span) (x : List ℕ) (b : BytesPromise (replicate n 0) 0 s p x) where
-    says-by_end : says n s ≡ eqb p.to n
-    says-by_end = sym (end_exact s) ∙ ap (λ (q : Span). eqb q.to n) (sym b.answer)
+    says_by_end : says n s ≡ eqb p.to n
+    says_by_end = sym (end_exact s) ∙ ap (λ (q : Span). eqb q.to n) (sym b.answer)
 
     -- what ends at n is the n bytes themselves
-    pub exact-yes : p.to ≡ n → ExactPromise n s false x
-    exact-yes e =
-        let g : says n s ≡ true = says-by_end ∙ eq-eqb p.to n e in
+    pub exact_yes : p.to ≡ n → ExactPromise n s false x
+    exact_yes e =
+        let g : says n s ≡ true = says_by_end ∙ eq-eqb p.to n e in
         let t = and_inv (hexed s) (eqb (length (pairs s)) n) g in
         let m : length (pairs s) ≡ n = eqb-true (length (pairs s)) n t.1 in
         let y = placed (replicate n 0) 0 (pairs s) in
-        let f = put-filled n (pairs s) (fits (replicate n 0) 0 (length (pairs s))) y (record { answer = refl; buffer = refl }) (omega arith) in
-        let w : y ≡ pairs s = f ∙ filled-long n (pairs s) (omega arith) in
+        let f = put_filled n (pairs s) (fits (replicate n 0) 0 (length (pairs s))) y (record { answer = refl; buffer = refl }) (omega arith) in
+        let w : y ≡ pairs s = f ∙ filled_long n (pairs s) (omega arith) in
         record {
           answer = sym (ap not g);
           buffer = b.buffer ∙ cond_true (hexed s) y (replicate n 0) t.0 ∙ w ∙ sym (cond_true (says n s) (pairs s) (replicate n 0) g);
         }
 
     -- what ends elsewhere is bad
-    pub exact-no : (p.to ≡ n → ⊥) → ExactPromise n s true (replicate n 0)
-    exact-no e =
-        let g : says n s ≡ false = says-by_end ∙ ne_eqb p.to n e in
+    pub exact_no : (p.to ≡ n → ⊥) → ExactPromise n s true (replicate n 0)
+    exact_no e =
+        let g : says n s ≡ false = says_by_end ∙ ne_eqb p.to n e in
         record { answer = sym (ap not g); buffer = sym (cond_false (says n s) (pairs s) (replicate n 0) g) }
 
 -- what is told of a number that was read from a text
 pub counted : (most : ℕ) (s t : List ℕ) (u v : Number) → u ≡ v → u ≡ number_in 10 most s → s ≡ t → count_of v ≡ count_of (number_in 10 most t)
 counted most s t u v e f g = sym (ap count_of e) ∙ ap count_of f ∙ ap (λ (q : List ℕ). count_of (number_in 10 most q)) g
 
-pub id-counted : (s t : List ℕ) (u v : Word) → u ≡ v → u ≡ word_in s → s ≡ t → id_of v ≡ id_of (word_in t)
-id-counted s t u v e f g = sym (ap id_of e) ∙ ap id_of f ∙ ap (λ (q : List ℕ). id_of (word_in q)) g
+pub id_counted : (s t : List ℕ) (u v : Word) → u ≡ v → u ≡ word_in s → s ≡ t → id_of v ≡ id_of (word_in t)
+id_counted s t u v e f g = sym (ap id_of e) ∙ ap id_of f ∙ ap (λ (q : List ℕ). id_of (word_in q)) g

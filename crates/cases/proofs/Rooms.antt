@@ -16,8 +16,8 @@ use Rattle.cases.specs.Room.{lent_of, untouched, spilled_word, spill_pieces}
 use Rattle.octets.proofs.Order.{cond_true, cond_false}
 
 -- one byte more
-pub fill-turn : (x d : List ℕ) (i : ℕ) → x ≡ begun (replicate i 0xee) d → i < length d → set x i 0xee ≡ begun (replicate (i + 1) 0xee) d
-fill-turn x d i e h =
+pub fill_turn : (x d : List ℕ) (i : ℕ) → x ≡ begun (replicate i 0xee) d → i < length d → set x i 0xee ≡ begun (replicate (i + 1) 0xee) d
+fill_turn x d i e h =
     let z : 0 + i ≡ i = omega arith in
     ap (λ (q : List ℕ). set q i 0xee) (e ∙ sym (begun_first (replicate i 0xee) d))
     ∙ ap (λ (j : ℕ). set (pasted d 0 (replicate i 0xee)) j 0xee) (sym z)
@@ -26,9 +26,9 @@ fill-turn x d i e h =
     ∙ begun_first (replicate (i + 1) 0xee) d
 
 module _ (n : ℕ) (d : List ℕ) where
-  pub lent-all : n ≤ length d → begun (replicate n 0xee) d ≡ lent_of n d
+  pub lent_all : n ≤ length d → begun (replicate n 0xee) d ≡ lent_of n d
   unfolding lent_of
-  lent-all h = sym (cond_true _ (begun (replicate n 0xee) d) d (le-leb n (length d) h))
+  lent_all h = sym (cond_true _ (begun (replicate n 0xee) d) d (le-leb n (length d) h))
 
   pub lent_none : length d < n → d ≡ lent_of n d
   unfolding lent_of
@@ -38,14 +38,14 @@ module _ (l : List ℕ) (i : ℕ) (e : untouched (drop i l) ≡ untouched l) whe
   pub touched_here : i < length l → (get_or l i 0 ≡ 0xee → ⊥) → false ≡ untouched l
   touched_here h n = sym (ap untouched (drop-cons l i 0 h) ∙ rw (ne_eqb (get_or l i 0) 0xee n)) ∙ e
 
-  pub untouched-here : i < length l → get_or l i 0 ≡ 0xee → untouched (drop (i + 1) l) ≡ untouched l
-  untouched-here h n =
+  pub untouched_here : i < length l → get_or l i 0 ≡ 0xee → untouched (drop (i + 1) l) ≡ untouched l
+  untouched_here h n =
       ap (λ (j : ℕ). untouched (drop j l)) (add-one i)
       ∙ sym (ap untouched (drop-cons l i 0 h) ∙ rw (eq-eqb (get_or l i 0) 0xee n))
       ∙ e
 
-  pub untouched-all : length l ≤ i → true ≡ untouched l
-  untouched-all h = ap untouched (sym (drop_of_length-le l h)) ∙ e
+  pub untouched_all : length l ≤ i → true ≡ untouched l
+  untouched_all h = ap untouched (sym (drop_of_length-le l h)) ∙ e
 
 module _ (room p : List ℕ) (a e : ℕ) (f : p ≡ part_of room a e) (t : Bool) (g : t ≡ untouched p) where
   pub spill_none : t ≡ true → [] ≡ spill_pieces room a e

@@ -21,34 +21,34 @@ more : (d : List ℕ) (c : Cursor) (ps qs : List (List ℕ)) (m r : Cursor) (e x
 more d c [] qs m r e x p q = subst (λ (k : Cursor). Said d k qs r x) p.0 (subst (λ (k : List ℕ). Said k m qs r x) p.1 q)
 more d c (s ∷ ps) qs m r e x p q = (p.0, p.1, p.2, more p.1 p.0 ps qs m r e x p.3 q)
 
-pub say-more : (d : List ℕ) (c : Cursor) (ps qs : List (List ℕ)) (m r : Cursor) (e x : List ℕ)
+pub say_more : (d : List ℕ) (c : Cursor) (ps qs : List (List ℕ)) (m r : Cursor) (e x : List ℕ)
     → SayPromise d c ps m e → SayPromise e m qs r x → SayPromise d c (ps ++ qs) r x
-say-more d c ps qs m r e x p q = record { said = more d c ps qs m r e x p.said q.said }
+say_more d c ps qs m r e x p q = record { said = more d c ps qs m r e x p.said q.said }
 
 -- a promise kept for pieces is kept for pieces that are equal
 pub say_of : (d : List ℕ) (c : Cursor) (ps qs : List (List ℕ)) (r : Cursor) (x : List ℕ) → ps ≡ qs → SayPromise d c ps r x → SayPromise d c qs r x
 say_of d c ps qs r x e p = subst (λ (k : List (List ℕ)). SayPromise d c k r x) e p
 
 -- nothing said, one piece said
-pub say-none : (d : List ℕ) (c : Cursor) → SayPromise d c [] c d
-say-none d c = record { said = (refl, refl) }
+pub say_none : (d : List ℕ) (c : Cursor) → SayPromise d c [] c d
+say_none d c = record { said = (refl, refl) }
 
 pub say_piece : (d : List ℕ) (c : Cursor) (s : List ℕ) (r : Cursor) (x : List ℕ) → AddPromise d c s r x → SayPromise d c (s ∷ []) r x
 say_piece d c s r x p = record { said = (r, x, p, (refl, refl)) }
 
 module _ (s : List ℕ) where
-  pub shown-none : length s ≡ 0 → dash ≡ shown s
+  pub shown_none : length s ≡ 0 → dash ≡ shown s
   unfolding shown
-  shown-none e = rw (eq-eqb (length s) 0 e)
+  shown_none e = rw (eq-eqb (length s) 0 e)
 
   pub shown_some : (length s ≡ 0 → ⊥) → hex s ≡ shown s
   unfolding shown
   shown_some e = rw (ne_eqb (length s) 0 e)
 
 module _ (r : Refusal) (n : ℕ) (e : n ≡ number_of r) where
-  pub refused-plain : carries_of r ≡ false → refused_word ∷ decimal n ∷ [] ≡ refusal_pieces r
+  pub refused_plain : carries_of r ≡ false → refused_word ∷ decimal n ∷ [] ≡ refusal_pieces r
   unfolding refusal_pieces
-  refused-plain f = ap (λ (k : ℕ). refused_word ∷ decimal k ∷ []) e ∙ sym (cond_false (carries_of r) _ _ f)
+  refused_plain f = ap (λ (k : ℕ). refused_word ∷ decimal k ∷ []) e ∙ sym (cond_false (carries_of r) _ _ f)
 
   pub refused_with : (v : ℕ) → v ≡ value_of r → carries_of r ≡ true → refused_word ∷ decimal n ∷ space ∷ decimal v ∷ [] ≡ refusal_pieces r
   unfolding refusal_pieces

@@ -14,18 +14,18 @@ use Rattle.octets.proofs.Order.{lt_or_le}
 use Rattle.text.specs.Fields.{upto, cut}
 use Rattle.text.proofs.Cuts.{upto_take, walk_on, walk_end}
 use Rattle.cases.specs.Fields.{part_of, part_at, past_of, behind, behind_at, field_of, place_of}
-use Rattle.cases.proofs.Parts.{part_there, part_at-inside}
+use Rattle.cases.proofs.Parts.{part_there, part_at_inside}
 use Rattle.octets.proofs.Order.{cond_true, cond_false}
 
 -- a field is no longer than what it begins
-pub upto-short : (c : ℕ) (l : List ℕ) → length (upto c l) ≤ length l
-upto-short c l = omega (arith, ap length (upto_take c l), length-take (length (upto c l)) l)
+pub upto_short : (c : ℕ) (l : List ℕ) → length (upto c l) ≤ length l
+upto_short c l = omega (arith, ap length (upto_take c l), length-take (length (upto c l)) l)
 
 -- from a place in the line to behind the next separator, or to the line's end
 module _ (c a e : ℕ) (l : List ℕ) (f : e ≡ a + length (upto c (drop a l))) where
-  pub past-on : e < length l → e + 1 ≡ past_of c l a
+  pub past_on : e < length l → e + 1 ≡ past_of c l a
   unfolding past_of
-  past-on h =
+  past_on h =
       let k : a + length (upto c (drop a l)) < length l = omega arith in
       let n : e + 1 ≡ a + length (upto c (drop a l)) + 1 = omega arith in
       n ∙ sym (cond_true _ (a + length (upto c (drop a l)) + 1) (length l) (lt-ltb (a + length (upto c (drop a l))) (length l) k))
@@ -38,11 +38,11 @@ module _ (c a e : ℕ) (l : List ℕ) (f : e ≡ a + length (upto c (drop a l)))
 
 -- what stands from there on
 module _ (c a : ℕ) (l : List ℕ) where
-  pub past-drop : (past_of c l a ≤ length l) × (drop (past_of c l a) l ≡ drop (suc (length (upto c (drop a l)))) (drop a l))
-  past-drop =
+  pub past_drop : (past_of c l a ≤ length l) × (drop (past_of c l a) l ≡ drop (suc (length (upto c (drop a l)))) (drop a l))
+  past_drop =
       ⊎_elim
       (λ (h : a + length (upto c (drop a l)) < length l).
-      let e = past-on c a (a + length (upto c (drop a l))) l refl h in
+      let e = past_on c a (a + length (upto c (drop a l))) l refl h in
       let n : past_of c l a ≡ a + suc (length (upto c (drop a l))) = sym e ∙ omega arith in
       (omega (arith, n), ap (λ (k : ℕ). drop k l) n ∙ sym (drop-drop (suc (length (upto c (drop a l)))) a l)))
       (λ (h : length l ≤ a + length (upto c (drop a l))).
@@ -57,10 +57,10 @@ module _ (c a : ℕ) (l : List ℕ) where
       (lt_or_le (a + length (upto c (drop a l))) (length l))
 
 -- one separator more
-pub behind-next : (c i a r : ℕ) (l : List ℕ) → drop a l ≡ behind c i l → r ≡ past_of c l a
+pub behind_next : (c i a r : ℕ) (l : List ℕ) → drop a l ≡ behind c i l → r ≡ past_of c l a
     → (r ≤ length l) × (drop r l ≡ behind c (i + 1) l)
-behind-next c i a r l e f =
-    let p = past-drop c a l in (
+behind_next c i a r l e f =
+    let p = past_drop c a l in (
       omega (arith, f, p.0),
       ap (λ (k : ℕ). drop k l) f
           ∙ p.1
@@ -69,43 +69,43 @@ behind-next c i a r l e f =
     )
 
 -- where that begins
-behind_at-here : (c k : ℕ) (l : List ℕ) (a : ℕ) → a ≤ length l → drop a l ≡ behind c k l → behind_at c k l ≡ a
+behind_at_here : (c k : ℕ) (l : List ℕ) (a : ℕ) → a ≤ length l → drop a l ≡ behind c k l → behind_at c k l ≡ a
 unfolding behind_at
-behind_at-here c k l a h e = ap (λ (q : List ℕ). length l - length q) (sym e) ∙ omega (arith, length-drop a l)
+behind_at_here c k l a h e = ap (λ (q : List ℕ). length l - length q) (sym e) ∙ omega (arith, length-drop a l)
 
 -- the fields from the k-th on are those of what stands behind k separators, if there are so many
 abbrev Met : ℕ → List ℕ → ℕ → Type 0
 Met c l k = (drop k (cut c l) ≡ cut c (behind c k l)) ⊎ ((drop k (cut c l) ≡ []) × (behind c k l ≡ []))
 
 module _ (c k : ℕ) (l : List ℕ) where
-  drop-one : (f : List ℕ) (fs : List (List ℕ)) → drop k (cut c l) ≡ f ∷ fs → drop (suc k) (cut c l) ≡ fs
-  drop-one f fs e = ap (λ (j : ℕ). drop j (cut c l)) (sym (add-one k)) ∙ sym (drop-drop 1 k (cut c l)) ∙ ap (drop 1) e
+  drop_one : (f : List ℕ) (fs : List (List ℕ)) → drop k (cut c l) ≡ f ∷ fs → drop (suc k) (cut c l) ≡ fs
+  drop_one f fs e = ap (λ (j : ℕ). drop j (cut c l)) (sym (add-one k)) ∙ sym (drop-drop 1 k (cut c l)) ∙ ap (drop 1) e
 
-  none-on : drop k (cut c l) ≡ [] → drop (suc k) (cut c l) ≡ []
-  none-on e = ap (λ (j : ℕ). drop j (cut c l)) (sym (add-one k)) ∙ sym (drop-drop 1 k (cut c l)) ∙ ap (drop 1) e
+  none_on : drop k (cut c l) ≡ [] → drop (suc k) (cut c l) ≡ []
+  none_on e = ap (λ (j : ℕ). drop j (cut c l)) (sym (add-one k)) ∙ sym (drop-drop 1 k (cut c l)) ∙ ap (drop 1) e
 
-  meets-next : Met c l k → Met c l (suc k)
-  meets-next (inr p) = inr (none-on p.0, ap (λ (q : List ℕ). drop (suc (length (upto c q))) q) p.1)
-  meets-next (inl p) =
+  meets_next : Met c l k → Met c l (suc k)
+  meets_next (inr p) = inr (none_on p.0, ap (λ (q : List ℕ). drop (suc (length (upto c q))) q) p.1)
+  meets_next (inl p) =
       let b = behind c k l in
       let n = length (upto c b) in
       let z : n ≡ 0 + n = omega arith in
       ⊎_elim
       (λ (h : n < length b).
       let o : n + 1 ≡ suc n = omega arith in
-      inl (drop-one _ _ (p ∙ walk_on c 0 b n z h) ∙ ap (λ (j : ℕ). cut c (drop j b)) o))
+      inl (drop_one _ _ (p ∙ walk_on c 0 b n z h) ∙ ap (λ (j : ℕ). cut c (drop j b)) o))
       (λ (h : length b ≤ n).
       let o : length b ≤ suc n = omega arith in
-      inr (drop-one _ _ (p ∙ walk_end c 0 b n z h), drop_of_length-le b o))
+      inr (drop_one _ _ (p ∙ walk_end c 0 b n z h), drop_of_length-le b o))
       (lt_or_le n (length b))
 
 meets : (c : ℕ) (l : List ℕ) (k : ℕ) → Met c l k
 meets c l zero = inl refl
-meets c l (suc k) = meets-next c k l (meets c l k)
+meets c l (suc k) = meets_next c k l (meets c l k)
 
 -- the first field of a line
-head-cut : (c : ℕ) (b : List ℕ) → get_or (cut c b) 0 [] ≡ upto c b
-head-cut c b =
+head_cut : (c : ℕ) (b : List ℕ) → get_or (cut c b) 0 [] ≡ upto c b
+head_cut c b =
     let n = length (upto c b) in
     let z : n ≡ 0 + n = omega arith in
     let m : n - 0 ≡ n = omega arith in
@@ -122,7 +122,7 @@ field_walk c l k =
     ap (λ (j : ℕ). get_or (cut c l) j []) z
     ∙ sym (get_or-drop k (cut c l) 0 [])
     ∙ ⊎_elim
-    (λ (p : drop k (cut c l) ≡ cut c (behind c k l)). ap (λ (q : List (List ℕ)). get_or q 0 []) p ∙ head-cut c (behind c k l))
+    (λ (p : drop k (cut c l) ≡ cut c (behind c k l)). ap (λ (q : List (List ℕ)). get_or q 0 []) p ∙ head_cut c (behind c k l))
     (λ (p : (drop k (cut c l) ≡ []) × (behind c k l ≡ [])).
     ap (λ (q : List (List ℕ)). get_or q 0 []) p.0 ∙ ap (upto c) (sym p.1))
     (meets c l k)
@@ -130,7 +130,7 @@ field_walk c l k =
 -- the part that is handed out as a field
 module _ (l : List ℕ) (k a e : ℕ) (h : a ≤ length l) (m : drop a l ≡ behind 0x20 k l) (f : e ≡ a + length (upto 0x20 (drop a l))) where
   within : (a ≤ e) × (e ≤ length l)
-  within = (omega arith, omega (arith, upto-short 0x20 (drop a l), length-drop a l))
+  within = (omega arith, omega (arith, upto_short 0x20 (drop a l), length-drop a l))
 
   pub field_part : part_of l a e ≡ field_of l k
   unfolding field_of
@@ -143,12 +143,12 @@ module _ (l : List ℕ) (k a e : ℕ) (h : a ≤ length l) (m : drop a l ≡ beh
       ∙ sym (field_walk 0x20 l k)
 
   pub field_at : part_at l a e ≡ behind_at 0x20 k l
-  field_at = part_at-inside l a e within.0 within.1 ∙ sym (behind_at-here 0x20 k l a h m)
+  field_at = part_at_inside l a e within.0 within.1 ∙ sym (behind_at_here 0x20 k l a h m)
 
 -- looking a word up: it is the one at k, or one behind it
 module _ (s : List ℕ) (ws : List (List ℕ)) (k : ℕ) (p : place_of s ws ≡ k + place_of s (drop k ws)) where
-  pub word-here : k < length ws → same (get_or ws k []) s ≡ true → k ≡ place_of s ws
-  word-here h e =
+  pub word_here : k < length ws → same (get_or ws k []) s ≡ true → k ≡ place_of s ws
+  word_here h e =
       let z : place_of s (drop k ws) ≡ 0 = ap (place_of s) (drop-cons ws k [] h) ∙ rw e in
       omega arith
 

@@ -31,13 +31,13 @@ pub record CbcSeen : Type 0 where
   pub left : List ℕ
 
 -- two calls on the two parts of the buffer that a third is lent whole, under its key. The first has the third's IV and is not refused; the second's IV
--- is the block that is handed on behind the first's cipher text, which `cipherText` tells
-pub record TwoGoes (cipherText : CbcSeen → List ℕ) (first second whole : CbcSeen) : Type 0 where
+-- is the block that is handed on behind the first's cipher text, which `cipher_text` tells
+pub record TwoGoes (cipher_text : CbcSeen → List ℕ) (first second whole : CbcSeen) : Type 0 where
   pub parts : whole.lent ≡ first.lent ++ second.lent
   pub first_key : first.key ≡ whole.key
   pub second_key : second.key ≡ whole.key
-  pub first-iv : first.iv ≡ whole.iv
-  pub second-iv : second.iv ≡ handed_on first.iv (cipherText first)
+  pub first_iv : first.iv ≡ whole.iv
+  pub second_iv : second.iv ≡ handed_on first.iv (cipher_text first)
   pub first_done : first.answer ≡ Done
 
 -- encryption leaves the cipher text, decryption is lent it

@@ -7,14 +7,14 @@ use mathlib.Core.List.{List, [], ◌∷◌, ◌++◌, append_assoc}
 use lib.ListN.{length, get_or}
 use Rattle.octets.specs.Bytes.{Bytes}
 use Rattle.octets.specs.Tab.{tab}
-use Rattle.octets.proofs.Tab.{bytes-tab}
+use Rattle.octets.proofs.Tab.{bytes_tab}
 use Rattle.sbox.specs.Field.{xtime, mul}
 use Rattle.sbox.specs.Substitution.{sub_byte, sub_bytes}
 use Rattle.aes.specs.State.{shift_rows, row, mix_row, mix_columns, add_round_key}
 use Rattle.aes.specs.Key.{powers, words, schedule, key_expansion}
 use Rattle.aes.specs.Turn.{next_key}
 use Rattle.aes.specs.Cipher.{rounds, cipher, inv_cipher}
-use Rattle.aes.proofs.Keys.{words-turn}
+use Rattle.aes.proofs.Keys.{words_turn}
 use Rattle.aes.proofs.KeyBytes.{expansion_bytes}
 use Rattle.aes.proofs.Inverse.{inv_cipher-cipher}
 
@@ -30,7 +30,7 @@ from k zero m j h =
     ap (schedule k) e
 from k (suc n) m j h =
     sym (append_assoc (schedule k m) (words k (4 * m)) (turns n (next_key (words k (4 * m)) (powers m)) (xtime (powers m))))
-    ∙ ap (λ (w : List ℕ). schedule k (suc m) ++ turns n w (powers (suc m))) (sym (words-turn k m))
+    ∙ ap (λ (w : List ℕ). schedule k (suc m) ++ turns n w (powers (suc m))) (sym (words_turn k m))
     ∙ from k n (suc m) j (omega arith)
 
 in_turn : (k : List ℕ) → key_expansion k ≡ turns 10 k 1
@@ -39,7 +39,7 @@ in_turn k = sym (from k 10 0 11 refl)
 
 -- a block that no byte changes where all are taken modulo 256
 bytes : (l : List ℕ) → tab 16 (λ i. get_or l i 0 % 256) ≡ l → Bytes l
-bytes l e = subst Bytes e (bytes-tab 16 (λ i. get_or l i 0 % 256) (λ i. omega arith))
+bytes l e = subst Bytes e (bytes_tab 16 (λ i. get_or l i 0 % 256) (λ i. omega arith))
 
 undone : (k p c : List ℕ) → tab 16 (λ i. get_or k i 0 % 256) ≡ k → tab 16 (λ i. get_or p i 0 % 256) ≡ p
     → cipher (key_expansion k) p ≡ c → inv_cipher (key_expansion k) c ≡ p

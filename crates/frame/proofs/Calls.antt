@@ -14,7 +14,7 @@ use Rattle.refusal.specs.Call.{Call}
 use Rattle.refusal.specs.Order.{Res, accept}
 use Rattle.refusal.proofs.Order.{accept_inj, then_inv}
 use Rattle.octets.specs.Bytes.{Bytes}
-use Rattle.octets.proofs.Place.{begun-take}
+use Rattle.octets.proofs.Place.{begun_take}
 use Rattle.framing.specs.Known.{known}
 use Rattle.framing.specs.Suite.{Suite, Laws}
 use Rattle.framing.specs.Packet.{Message}
@@ -24,9 +24,9 @@ use Rattle.framing.specs.Outer.{read_datagram_of}
 use Rattle.framing.specs.Payload.{payload_of, PassesOrNone}
 use Rattle.framing.specs.Told.{counted}
 use Rattle.framing.specs.Frames.{FrameOf, DatagramOf, Given}
-use Rattle.framing.proofs.Exactly.{frame-read, accepts_exactly, datagram-read, datagram_exactly}
-use Rattle.framing.proofs.Opened.{payload_empty, frame-payload, datagram-payload}
-use Rattle.framing.proofs.RoundTrip.{written-frame, written-datagram}
+use Rattle.framing.proofs.Exactly.{frame_read, accepts_exactly, datagram_read, datagram_exactly}
+use Rattle.framing.proofs.Opened.{payload_empty, frame_payload, datagram_payload}
+use Rattle.framing.proofs.RoundTrip.{written_frame, written_datagram}
 use Rattle.suite.specs.Session.{suite_of}
 use Rattle.suite.specs.declared.SubState.{SubState}
 use Rattle.suite.specs.declared.PayloadType.{PayloadType}
@@ -118,30 +118,30 @@ module _ (c : ReadCall) where
   abbrev r : ReadSeen
   r = seen_read c
 
-  pub read_payload-exact : Exact (λ M. FrameOf (suite_of (seen_read c).session) M (seen_read c).lent) (seen_read c).answer
+  pub read_payload_exact : Exact (λ M. FrameOf (suite_of (seen_read c).session) M (seen_read c).lent) (seen_read c).answer
       (Hands (seen_read c).left (suite_of (seen_read c).session).aes)
-  read_payload-exact =
+  read_payload_exact =
       let S : Suite = suite_of r.session in
       let L : Laws S = read_laws c.κs c.args c.typed in
       let e = accepts_exactly S L r.lent c.kept.1 in
       exact (read_of S r.lent) r.answer c.kept.0.tells.answer (Hands r.left S.aes) (λ M. FrameOf S M r.lent) e
       (λ M x f h. handed _ _ _ x h ∙ ap (λ (y : List ℕ). payload_of y S.aes (length M.payload)) c.kept.0.buffer
-      ∙ frame-payload S L M r.lent ((e M).0 f))
+      ∙ frame_payload S L M r.lent ((e M).0 f))
 
 -- a datagram that is read: the packet is what stands behind its first four bytes
 module _ (c : ReadDatagramCall) where
   abbrev d : ReadSeen
   d = seen_read_datagram c
 
-  pub read_datagram-exact : Exact (λ M. DatagramOf (suite_of (seen_read_datagram c).session) M (seen_read_datagram c).lent) (seen_read_datagram c).answer
+  pub read_datagram_exact : Exact (λ M. DatagramOf (suite_of (seen_read_datagram c).session) M (seen_read_datagram c).lent) (seen_read_datagram c).answer
       (Hands (drop 4 (seen_read_datagram c).left) (suite_of (seen_read_datagram c).session).aes)
-  read_datagram-exact =
+  read_datagram_exact =
       let S : Suite = suite_of d.session in
       let L : Laws S = read_laws c.κs c.args c.typed in
       let e = datagram_exactly S L d.lent c.kept.1 in
       exact (read_datagram_of S d.lent) d.answer c.kept.0.tells.answer (Hands (drop 4 d.left) S.aes) (λ M. DatagramOf S M d.lent) e
       (λ M x f h. handed _ _ _ x h ∙ ap (λ (y : List ℕ). payload_of (drop 4 y) S.aes (length M.payload)) c.kept.0.buffer
-      ∙ datagram-payload S L M d.lent ((e M).0 f))
+      ∙ datagram_payload S L M d.lent ((e M).0 f))
 
 -- what a writer told the length of is what it wrote
 wrote : (R : Res (List ℕ)) (out : List ℕ) (w : Written) (n : ℕ) (exit : List ℕ) → w ≡ Length n → WritePromise R out w exit → R ≡ accept (take n exit)
@@ -149,19 +149,19 @@ unfolding counted
 wrote R out w n exit e p =
     let t = then_inv R _ n (sym p.answer ∙ ap written_told e) in
     let size : length t.0 ≡ n = accept_inj _ _ t.2 in
-    t.1 ∙ ap accept (sym (ap (take n) (p.buffer ∙ ap (λ (x : Res (List ℕ)). wrote_by x out) t.1) ∙ begun-take t.0 out n size))
+    t.1 ∙ ap accept (sym (ap (take n) (p.buffer ∙ ap (λ (x : Res (List ℕ)). wrote_by x out) t.1) ∙ begun_take t.0 out n size))
 
 -- every type has a number that stands for one
-type-known : (t : PayloadType) → known (type_number t) ≡ true
+type_known : (t : PayloadType) → known (type_number t) ≡ true
 unfolding known
-type-known IpmiMessage = refl
-type-known Sol = refl
-type-known RmcpPlusOpenSessionRequest = refl
-type-known RmcpPlusOpenSessionResponse = refl
-type-known RakpMessage1 = refl
-type-known RakpMessage2 = refl
-type-known RakpMessage3 = refl
-type-known RakpMessage4 = refl
+type_known IpmiMessage = refl
+type_known Sol = refl
+type_known RmcpPlusOpenSessionRequest = refl
+type_known RmcpPlusOpenSessionResponse = refl
+type_known RakpMessage1 = refl
+type_known RakpMessage2 = refl
+type_known RakpMessage3 = refl
+type_known RakpMessage4 = refl
 
 -- what the arguments of a write call give
 module _ (κs : _) (args : Dens κs write-payload-kinds.ps) where
@@ -172,40 +172,40 @@ module _ (κs : _) (args : Dens κs write-payload-kinds.ps) where
     given : Bytes args.1.1.1.1.0.now → Given message args.1.1.1.1.1.0
     given b =
         record {
-          ty-known = type-known args.1.0;
-          id-fits = (let f : Fits w32 args.1.1.0 = search (rules, g) in f.fits);
-          seq-fits = (let f : Fits w32 args.1.1.1.0 = search (rules, g) in f.fits);
-          payload-bytes = b;
-          iv-size = search (rules, g);
-          iv-bytes = λ k. let f : Fits w8 (get_or args.1.1.1.1.1.0 k 0) = search (rules, g) in f.fits;
+          ty_known = type_known args.1.0;
+          id_fits = (let f : Fits w32 args.1.1.0 = search (rules, g) in f.fits);
+          seq_fits = (let f : Fits w32 args.1.1.1.0 = search (rules, g) in f.fits);
+          payload_bytes = b;
+          iv_size = search (rules, g);
+          iv_bytes = λ k. let f : Fits w8 (get_or args.1.1.1.1.1.0 k 0) = search (rules, g) in f.fits;
         }
 
 -- a packet that a write call wrote is read back by a read call
 module _ (w : WriteCall) (c : ReadCall) (f : Follows (seen_write w) (seen_read c)) where
-  pub write_payload-read_back : ReadBack (seen_write w) (seen_read c).answer (Hands (seen_read c).left (suite_of (seen_read c).session).aes)
-  write_payload-read_back =
+  pub write_payload_read_back : ReadBack (seen_write w) (seen_read c).answer (Hands (seen_read c).left (suite_of (seen_read c).session).aes)
+  write_payload_read_back =
       let S : Suite = suite_of (seen_read c).session in
       let M : Message = message w.κs w.args in
       let L : Laws S = read_laws c.κs c.args c.typed in
       let g = given w.κs w.args w.typed w.kept.1 in
       let R = wrote _ _ w.answer f.length _ f.told w.kept.0 in
-      let made = written-frame (suite_of w.args.0) (suite_lengths w.args.0).enc-length M _ g _ _ R in
+      let made = written_frame (suite_of w.args.0) (suite_lengths w.args.0).enc_length M _ g _ _ R in
       let o : FrameOf S M (seen_read c).lent = subst₂ (λ (s : SubState) (l : List ℕ). FrameOf (suite_of s) M l) (sym f.session) (sym f.lent) made in
-      read_back _ (seen_read c).answer c.kept.0.tells.answer _ (seen_write w) (frame-read S L M _ o)
-      (λ x h. handed _ _ _ x h ∙ ap (λ (y : List ℕ). payload_of y S.aes (length M.payload)) c.kept.0.buffer ∙ frame-payload S L M _ o)
+      read_back _ (seen_read c).answer c.kept.0.tells.answer _ (seen_write w) (frame_read S L M _ o)
+      (λ x h. handed _ _ _ x h ∙ ap (λ (y : List ℕ). payload_of y S.aes (length M.payload)) c.kept.0.buffer ∙ frame_payload S L M _ o)
 
 -- and so is a datagram
 module _ (w : WriteDatagramCall) (c : ReadDatagramCall) (f : Follows (seen_write_datagram w) (seen_read_datagram c)) where
-  pub write_datagram-read_back : ReadBack (seen_write_datagram w) (seen_read_datagram c).answer
+  pub write_datagram_read_back : ReadBack (seen_write_datagram w) (seen_read_datagram c).answer
       (Hands (drop 4 (seen_read_datagram c).left) (suite_of (seen_read_datagram c).session).aes)
-  write_datagram-read_back =
+  write_datagram_read_back =
       let S : Suite = suite_of (seen_read_datagram c).session in
       let M : Message = message w.κs w.args in
       let L : Laws S = read_laws c.κs c.args c.typed in
       let g = given w.κs w.args w.typed w.kept.1 in
       let R = wrote _ _ w.answer f.length _ f.told w.kept.0 in
-      let made = written-datagram (suite_of w.args.0) (suite_lengths w.args.0).enc-length M _ g _ _ R in
+      let made = written_datagram (suite_of w.args.0) (suite_lengths w.args.0).enc_length M _ g _ _ R in
       let o : DatagramOf S M (seen_read_datagram c).lent
       = subst₂ (λ (s : SubState) (l : List ℕ). DatagramOf (suite_of s) M l) (sym f.session) (sym f.lent) made in
-      read_back _ (seen_read_datagram c).answer c.kept.0.tells.answer _ (seen_write_datagram w) (datagram-read S L M _ o)
-      (λ x h. handed _ _ _ x h ∙ ap (λ (y : List ℕ). payload_of (drop 4 y) S.aes (length M.payload)) c.kept.0.buffer ∙ datagram-payload S L M _ o)
+      read_back _ (seen_read_datagram c).answer c.kept.0.tells.answer _ (seen_write_datagram w) (datagram_read S L M _ o)
+      (λ x h. handed _ _ _ x h ∙ ap (λ (y : List ℕ). payload_of (drop 4 y) S.aes (length M.payload)) c.kept.0.buffer ∙ datagram_payload S L M _ o)

@@ -10,7 +10,7 @@ use Rattle.refusal.proofs.Order.{accept_inj, refuse≢accept, then_inv, then_ref
 use Rattle.framing.specs.Packet.{Message}
 use Rattle.framing.specs.Told.{Shown, shown}
 use Rattle.framing.specs.Frames.{Only}
-use Rattle.framing.proofs.Exactly.{refuses-none, accepts-only}
+use Rattle.framing.proofs.Exactly.{refuses_none, accepts_only}
 use Rattle.suite.specs.declared.PayloadType.{PayloadType}
 use Rattle.reader.specs.Answers.{read_told}
 use Rattle.reader.specs.declared.Reading.{Reading}
@@ -20,9 +20,9 @@ use Rattle.frame.specs.Exact.{WriteSeen, message_told, Exact, ReadBack}
 
 module _ (R : Res Message) (answer : Reading) (told : read_told answer ≡ shown R) where
   -- a refusal is answered exactly where one was found
-  refused-found : ((r : Refusal) × (answer ≡ Refused r)) ↔ ((n : ℕ) × (v : ℕ) × (R ≡ refuse n v))
+  refused_found : ((r : Refusal) × (answer ≡ Refused r)) ↔ ((n : ℕ) × (v : ℕ) × (R ≡ refuse n v))
   unfolding shown
-  refused-found = (λ e. found R refl e, λ f. answered answer refl (told ∙ then_refuse R _ _ _ f.2))
+  refused_found = (λ e. found R refl e, λ f. answered answer refl (told ∙ then_refuse R _ _ _ f.2))
     where
       found : (x : Res Message) → R ≡ x → ((r : Refusal) × (answer ≡ Refused r)) → (n : ℕ) × (v : ℕ) × (R ≡ refuse n v)
       found (refuse n v) f e = (n, v, f)
@@ -33,10 +33,10 @@ module _ (R : Res Message) (answer : Reading) (told : read_told answer ≡ shown
       answered (Accepted t i q n) f g = absurd (refuse≢accept _ _ _ (sym g ∙ ap read_told f))
 
   -- an answer that accepts tells the message found
-  message-found : (t : PayloadType) (i q n : ℕ) → answer ≡ Accepted t i q n
+  message_found : (t : PayloadType) (i q n : ℕ) → answer ≡ Accepted t i q n
       → (M : Message) × (R ≡ accept M) × (length M.payload ≡ n) × (message_told t i q M.payload ≡ M)
   unfolding shown
-  message-found t i q n e =
+  message_found t i q n e =
       let f = then_inv R _ _ (sym told ∙ ap read_told e) in
       let s = accept_inj _ _ f.2 in (
         f.0,
@@ -57,15 +57,15 @@ module _ (R : Res Message) (answer : Reading) (told : read_told answer ≡ shown
     exact Of exactly bytes =
         record {
           refused = (
-            λ e. (refuses-none Of R exactly).0 (refused-found.0 e),
-            λ none. refused-found.1 ((refuses-none Of R exactly).1 none),
+            λ e. (refuses_none Of R exactly).0 (refused_found.0 e),
+            λ none. refused_found.1 ((refuses_none Of R exactly).1 none),
           );
           accepted =
               λ t i q n e.
-              let m = message-found t i q n e in (
+              let m = message_found t i q n e in (
                 m.0.payload,
                 m.2,
-                subst (Only Of) (sym m.3) (accepts-only Of R exactly m.0 m.1),
+                subst (Only Of) (sym m.3) (accepts_only Of R exactly m.0 m.1),
                 λ x h. bytes m.0 x m.1 (subst (λ (k : ℕ). Hands k x) (sym m.2) h),
               );
         }

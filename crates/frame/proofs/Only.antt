@@ -3,10 +3,10 @@ use Prim.Native.Nat.{ℕ}
 use mathlib.Core.List.{List}
 use mathlib.Core.Path.{◌≡◌, sym, ◌∙◌}
 use Rattle.refusal.specs.Order.{Res}
-use Rattle.refusal.proofs.Told.{outcome-one}
+use Rattle.refusal.proofs.Told.{outcome_one}
 use Rattle.framing.specs.Packet.{Message}
 use Rattle.reader.specs.declared.Read.{Read}
-use Rattle.reader.proofs.Only.{tells-one}
+use Rattle.reader.proofs.Only.{tells_one}
 use Rattle.frame.specs.Answers.{ReadPromise}
 use Rattle.frame.proofs.place.payload.Reads as payload-reads
 use Rattle.frame.proofs.opening.open_in_place.Reads as open-in-place-reads
@@ -16,25 +16,25 @@ use Rattle.frame.proofs.opening.read_datagram.Reads as read-datagram-reads
 
 promise_one : (R : Res Message) (n : ℕ) (left : List ℕ) (a b : Read) (x y : List ℕ)
     → ReadPromise R n left a x → ReadPromise R n left b y → (a ≡ b) × (x ≡ y)
-promise_one R n left a b x y p q = (tells-one R n a b p.tells q.tells, p.buffer ∙ sym q.buffer)
+promise_one R n left a b x y p q = (tells_one R n a b p.tells q.tells, p.buffer ∙ sym q.buffer)
 
 -- of a part that is handed out: its bytes and its place
-pub payload-only : (κs : _) (args : _) (a b : _) (s t : _) → payload-reads.Post κs args a s → payload-reads.Post κs args b t
+pub payload_only : (κs : _) (args : _) (a b : _) (s t : _) → payload-reads.Post κs args a s → payload-reads.Post κs args b t
     → (a.now ≡ b.now) × (a.ref_ptr.0 ≡ b.ref_ptr.0) × (a.ref_ptr.1 ≡ b.ref_ptr.1)
-payload-only κs args a b s t p q = (p.0 ∙ sym q.0, p.1 ∙ sym q.1, p.2 ∙ sym q.2)
+payload_only κs args a b s t p q = (p.0 ∙ sym q.0, p.1 ∙ sym q.1, p.2 ∙ sym q.2)
 
 -- of the opening: what it leaves
-pub open_in_place-only : (κs : _) (args : _) (a b : _) (s t : _)
+pub open_in_place_only : (κs : _) (args : _) (a b : _) (s t : _)
     → open-in-place-reads.Post κs args a s → open-in-place-reads.Post κs args b t → s.1.0.now ≡ t.1.0.now
-open_in_place-only κs args a b s t p q = p ∙ sym q
+open_in_place_only κs args a b s t p q = p ∙ sym q
 
-pub read_payload-only : (κs : _) (args : _) (a b : _) (s t : _)
+pub read_payload_only : (κs : _) (args : _) (a b : _) (s t : _)
     → read-payload-reads.Post κs args a s → read-payload-reads.Post κs args b t → (a ≡ b) × (s.1.0.now ≡ t.1.0.now)
-read_payload-only κs args a b s t p q = promise_one _ _ _ a b _ _ p.0 q.0
+read_payload_only κs args a b s t p q = promise_one _ _ _ a b _ _ p.0 q.0
 
-pub read_datagram-only : (κs : _) (args : _) (a b : _) (s t : _)
+pub read_datagram_only : (κs : _) (args : _) (a b : _) (s t : _)
     → read-datagram-reads.Post κs args a s → read-datagram-reads.Post κs args b t → (a ≡ b) × (s.1.0.now ≡ t.1.0.now)
-read_datagram-only κs args a b s t p q = promise_one _ _ _ a b _ _ p.0 q.0
+read_datagram_only κs args a b s t p q = promise_one _ _ _ a b _ _ p.0 q.0
 
-pub check_outer-only : (κs : _) (args : _) (a b : _) (s t : _) → check-outer-reads.Post κs args a s → check-outer-reads.Post κs args b t → a ≡ b
-check_outer-only κs args a b s t p q = outcome-one a b (p ∙ sym q)
+pub check_outer_only : (κs : _) (args : _) (a b : _) (s t : _) → check-outer-reads.Post κs args a s → check-outer-reads.Post κs args b t → a ≡ b
+check_outer_only κs args a b s t p q = outcome_one a b (p ∙ sym q)

@@ -5,7 +5,7 @@ use mathlib.Core.List.{List}
 use mathlib.Core.Path.{◌≡◌, ◌∙◌}
 use Rattle.framing.specs.Suite.{Suite}
 use Rattle.framing.specs.Read.{read_of, openable, opened, left_of, accepts, blocks_of}
-use Rattle.framing.proofs.InPlace.{left-opened, left-found}
+use Rattle.framing.proofs.InPlace.{left_opened, left_found}
 use Rattle.reader.specs.Answers.{read_told, Tells}
 use Rattle.reader.specs.declared.Read.{Read}
 use Rattle.frame.specs.Answers.{ReadPromise}
@@ -14,7 +14,7 @@ use Rattle.frame.specs.Answers.{ReadPromise}
 module _ (S : Suite) (l : List ℕ) (r : Read) (t : Tells (read_of S l) (blocks_of S l) r) where
   pub read_opened : accepts (read_told r.answer) ≡ true → (x : List ℕ) → x ≡ cond (openable l) (opened S l) l
       → ReadPromise (read_of S l) (blocks_of S l) (left_of S l) r x
-  read_opened h x e = record { tells = t; buffer = e ∙ left-opened S l _ t.answer h }
+  read_opened h x e = record { tells = t; buffer = e ∙ left_opened S l _ t.answer h }
 
-  pub read-refused : accepts (read_told r.answer) ≡ false → ReadPromise (read_of S l) (blocks_of S l) (left_of S l) r l
-  read-refused h = record { tells = t; buffer = left-found S l _ t.answer h }
+  pub read_refused : accepts (read_told r.answer) ≡ false → ReadPromise (read_of S l) (blocks_of S l) (left_of S l) r l
+  read_refused h = record { tells = t; buffer = left_found S l _ t.answer h }

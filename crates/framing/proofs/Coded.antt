@@ -7,7 +7,7 @@ use lib.ListN.{length, take}
 use lib.Dec.{leb}
 use borrow.Author.Tests.{leb-true, le-leb, lt-leb}
 use Rattle.refusal.specs.Order.{Res, refuse, accept, and_then}
-use Rattle.refusal.proofs.Order.{then_refuse, then_accept, need-no}
+use Rattle.refusal.proofs.Order.{then_refuse, then_accept, need_no}
 use Rattle.octets.proofs.Order.{lt_or_le}
 use mathlib.Core.Logic.{⊎_elim}
 use Rattle.framing.specs.Suite.{Suite}
@@ -20,22 +20,22 @@ use Rattle.framing.proofs.Rest.{shown_stop}
 
 -- with no code to compare none is computed
 module _ (S : Suite) (l code : List ℕ) where
-  pub computed-none : (n : ℕ) → has_code S l ≡ false → n ≡ 0 → Computed S l code n
-  computed-none n e f = record {
+  pub computed_none : (n : ℕ) → has_code S l ≡ false → n ≡ 0 → Computed S l code n
+  computed_none n e f = record {
     right = λ h. absurd (false≢true (sym e ∙ h));
     count = f ∙ sym (cond_false (has_code S l) (S.blocks (coverage S l)) 0 e);
   }
 
-  pub computed-done : (n : ℕ) → has_code S l ≡ true → code ≡ code_of S l → n ≡ S.blocks (coverage S l) → Computed S l code n
-  computed-done n h e f = record { right = λ _. e; count = f ∙ sym (cond_true (has_code S l) (S.blocks (coverage S l)) 0 h) }
+  pub computed_done : (n : ℕ) → has_code S l ≡ true → code ≡ code_of S l → n ≡ S.blocks (coverage S l) → Computed S l code n
+  computed_done n h e f = record { right = λ _. e; count = f ∙ sym (cond_true (has_code S l) (S.blocks (coverage S l)) 0 h) }
 
 -- the two tests of `has_code`, as the code makes them
 module _ (S : Suite) (l : List ℕ) where
   pub code_fits : (b : Bool) → S.auth ≡ true → b ≡ leb S.m (length l) → b ≡ has_code S l
   code_fits b e f = f ∙ sym (ap (λ (x : Bool). x && leb S.m (length l)) e)
 
-  pub code-within : has_code S l ≡ true → S.m ≤ length l
-  code-within h = leb-true S.m (length l) (and_inv S.auth (leb S.m (length l)) h).1
+  pub code_within : has_code S l ≡ true → S.m ≤ length l
+  code_within h = leb-true S.m (length l) (and_inv S.auth (leb S.m (length l)) h).1
 
 -- where no code is compared, any will do
 module _ (S : Suite) (code other l : List ℕ) (same_code : has_code S l ≡ true → code ≡ other) where
@@ -47,7 +47,7 @@ module _ (S : Suite) (code other l : List ℕ) (same_code : has_code S l ≡ tru
       (λ (g : length l < S.m).
       let none : leb S.m (length l) ≡ false = lt-leb S.m (length l) g in
       cond_true S.auth (trailer_of S code l) (accept (length l)) a
-      ∙ need-no _ 6 0 _ none ∙ sym (need-no _ 6 0 _ none)
+      ∙ need_no _ 6 0 _ none ∙ sym (need_no _ 6 0 _ none)
       ∙ sym (cond_true S.auth (trailer_of S other l) (accept (length l)) a))
       (λ (g : S.m ≤ length l).
       ap (λ (x : List ℕ). cond S.auth (trailer_of S x l) (accept (length l)))
@@ -70,30 +70,30 @@ module _ (S : Suite) (code other l : List ℕ) (same_code : has_code S l ≡ tru
 
 -- the order with a code that is handed in: the head decides, or what stands behind it
 module _ (S : Suite) (l code : List ℕ) (n : ℕ) where
-  pub told-refused : (k v : ℕ) (x : Res ℕ) → x ≡ head_of S l → x ≡ refuse k v → (refuse k v ≡ shown (read_with S code l)) × (0 ≡ blocks_with S n l)
+  pub told_refused : (k v : ℕ) (x : Res ℕ) → x ≡ head_of S l → x ≡ refuse k v → (refuse k v ≡ shown (read_with S code l)) × (0 ≡ blocks_with S n l)
   unfolding read_with blocks_with compares_code
-  told-refused k v x h e = (
+  told_refused k v x h e = (
     sym (shown_stop (read_with S code l) k v (then_refuse (head_of S l) (rest_of S code l) k v (sym h ∙ e))),
     sym (ap (λ (y : Res ℕ). cond (accepts y && has_code S l) n 0) (sym h ∙ e)),
   )
 
-  pub told-behind : (ty b : ℕ) (a : Res Shown) → head_of S l ≡ accept ty → a ≡ shown (rest_of S code l ty) → b ≡ cond (has_code S l) n 0
+  pub told_behind : (ty b : ℕ) (a : Res Shown) → head_of S l ≡ accept ty → a ≡ shown (rest_of S code l ty) → b ≡ cond (has_code S l) n 0
       → (a ≡ shown (read_with S code l)) × (b ≡ blocks_with S n l)
   unfolding read_with blocks_with compares_code
-  told-behind ty b a h e f = (
+  told_behind ty b a h e f = (
     e ∙ ap shown (sym (then_accept (head_of S l) (rest_of S code l) ty h)),
     f ∙ ap (λ (x : Res ℕ). cond (accepts x && has_code S l) n 0) (sym h),
   )
 
 -- given the right code and its count, that is what reading finds and tells
 module _ (S : Suite) (l code : List ℕ) where
-  pub right-read : (has_code S l ≡ true → code ≡ code_of S l) → read_with S code l ≡ read_of S l
+  pub right_read : (has_code S l ≡ true → code ≡ code_of S l) → read_with S code l ≡ read_of S l
   unfolding read_of
-  right-read e = any_read S code (code_of S l) l e
+  right_read e = any_read S code (code_of S l) l e
 
-  pub right-blocks : (n : ℕ) → (has_code S l ≡ true → n ≡ S.blocks (coverage S l)) → blocks_with S n l ≡ blocks_of S l
+  pub right_blocks : (n : ℕ) → (has_code S l ≡ true → n ≡ S.blocks (coverage S l)) → blocks_with S n l ≡ blocks_of S l
   unfolding blocks_of blocks_with compares_code
-  right-blocks n e = by (accepts (head_of S l)) (has_code S l) e
+  right_blocks n e = by (accepts (head_of S l)) (has_code S l) e
     where
       by : (h b : Bool) → (b ≡ true → n ≡ S.blocks (coverage S l)) → cond (h && b) n 0 ≡ cond (h && b) (S.blocks (coverage S l)) 0
       by true true f = f refl
@@ -101,14 +101,14 @@ module _ (S : Suite) (l code : List ℕ) where
       by false b f = refl
 
   -- a code that was computed, and what is told of the rest with it
-  pub told-computed : (ty n b : ℕ) (a : Res Shown) → head_of S l ≡ accept ty → Computed S l code n → a ≡ shown (rest_of S code l ty) → b ≡ n
+  pub told_computed : (ty n b : ℕ) (a : Res Shown) → head_of S l ≡ accept ty → Computed S l code n → a ≡ shown (rest_of S code l ty) → b ≡ n
       → (a ≡ shown (read_of S l)) × (b ≡ blocks_of S l)
   unfolding blocks_of
-  told-computed ty n b a h c e f =
-      let t = told-behind S l code (S.blocks (coverage S l)) ty b a h e (f ∙ c.count) in
-      (t.0 ∙ ap shown (right-read c.right), t.1)
+  told_computed ty n b a h c e f =
+      let t = told_behind S l code (S.blocks (coverage S l)) ty b a h e (f ∙ c.count) in
+      (t.0 ∙ ap shown (right_read c.right), t.1)
 
 -- a packet that the head refuses
-pub told-head : (S : Suite) (l : List ℕ) (k v : ℕ) (x : Res ℕ) → x ≡ head_of S l → x ≡ refuse k v → (refuse k v ≡ shown (read_of S l)) × (0 ≡ blocks_of S l)
+pub told_head : (S : Suite) (l : List ℕ) (k v : ℕ) (x : Res ℕ) → x ≡ head_of S l → x ≡ refuse k v → (refuse k v ≡ shown (read_of S l)) × (0 ≡ blocks_of S l)
 unfolding read_of blocks_of
-told-head S l k v x h e = told-refused S l (code_of S l) (S.blocks (coverage S l)) k v x h e
+told_head S l k v x h e = told_refused S l (code_of S l) (S.blocks (coverage S l)) k v x h e

@@ -17,7 +17,7 @@ use Rattle.framing.specs.Suite.{Suite, Laws}
 use Rattle.framing.specs.Packet.{Message, Filling, Legal, bit, counting, plain_of, body_of, header_of, framed, covered, trailer, build}
 use Rattle.framing.specs.Read.{longest_packet, message_of, body_length, head_of, coverage, code_of, trailer_of, before_trailer, unpadded, decrypted}
 use Rattle.framing.specs.Read.{payload_in, body_in, payload_behind, rest_of, read_of, read_with}
-use Rattle.octets.proofs.Bytes.{bytes-append, bytes-cons, bytes-nil}
+use Rattle.octets.proofs.Bytes.{bytes_append, bytes_cons, bytes_nil}
 use Rattle.octets.proofs.Number.{unle-le}
 use Rattle.octets.proofs.Equal.{same_self}
 use Rattle.octets.proofs.Order.{by_cases, cond_true, cond_false}
@@ -27,21 +27,21 @@ pub length-counting : (p : ℕ) → length (counting p) ≡ p
 length-counting zero = refl
 length-counting (suc p) = simp length-append (omega (arith, length-counting p))
 
-pub bytes-counting : (p : ℕ) → p ≤ 255 → Bytes (counting p)
-bytes-counting zero h = bytes-nil
-bytes-counting (suc p) h =
+pub bytes_counting : (p : ℕ) → p ≤ 255 → Bytes (counting p)
+bytes_counting zero h = bytes_nil
+bytes_counting (suc p) h =
     let g : suc p < 256 = omega arith in
-    bytes-append (counting p) (suc p ∷ []) (bytes-counting p (omega arith)) (bytes-cons (suc p) [] g bytes-nil)
+    bytes_append (counting p) (suc p ∷ []) (bytes_counting p (omega arith)) (bytes_cons (suc p) [] g bytes_nil)
 
 pub length-plain : (payload : List ℕ) (p : ℕ) → length (plain_of payload p) ≡ length payload + p + 1
 unfolding plain_of
 length-plain payload p = simp (length-append, length-append) (omega (arith, length-counting p))
 
-pub bytes-plain : (payload : List ℕ) (p : ℕ) → Bytes payload → p ≤ 255 → Bytes (plain_of payload p)
+pub bytes_plain : (payload : List ℕ) (p : ℕ) → Bytes payload → p ≤ 255 → Bytes (plain_of payload p)
 unfolding plain_of
-bytes-plain payload p h g =
+bytes_plain payload p h g =
     let k : p < 256 = omega arith in
-    bytes-append payload (counting p ++ (p ∷ [])) h (bytes-append (counting p) (p ∷ []) (bytes-counting p g) (bytes-cons p [] k bytes-nil))
+    bytes_append payload (counting p ++ (p ∷ [])) h (bytes_append (counting p) (p ∷ []) (bytes_counting p g) (bytes_cons p [] k bytes_nil))
 
 -- what was decrypted, by what stands where
 pub unpad_is : (x payload : List ℕ) (n p : ℕ) → length x - 1 ≡ n → get_or x n 0 ≡ p → p ≤ n → part x (n - p) p ≡ counting p
@@ -123,26 +123,26 @@ module _ (S : Suite) where
       (ap accept (ap (λ (j : ℕ). j - 2 - get_or l (j - 2) 0) c ∙ ap (λ (x : ℕ). k - 2 - x) g)))))
 
 module _ (S : Suite) (M : Message) (F : Filling) where
-  pub build-auth : S.auth ≡ true → build S M F ≡ covered S M F ++ S.mac (covered S M F)
+  pub build_auth : S.auth ≡ true → build S M F ≡ covered S M F ++ S.mac (covered S M F)
   unfolding build
-  build-auth e = cond_true S.auth (covered S M F ++ S.mac (covered S M F)) (framed S M F) e
+  build_auth e = cond_true S.auth (covered S M F ++ S.mac (covered S M F)) (framed S M F) e
 
-  pub build-bare : S.auth ≡ false → build S M F ≡ framed S M F
+  pub build_bare : S.auth ≡ false → build S M F ≡ framed S M F
   unfolding build
-  build-bare e = cond_false S.auth (covered S M F ++ S.mac (covered S M F)) (framed S M F) e
+  build_bare e = cond_false S.auth (covered S M F ++ S.mac (covered S M F)) (framed S M F) e
 
   -- a packet is the header, the body, and with integrity the trailer
   pub build_is : build S M F ≡ framed S M F ++ trailer S M F
   unfolding covered trailer
   build_is =
       by_cases S.auth
-      (λ e. build-auth e ∙ append_assoc (framed S M F) _ _
+      (λ e. build_auth e ∙ append_assoc (framed S M F) _ _
       ∙ ap (λ (l : List ℕ). framed S M F ++ l) (append_assoc F.pads _ _ ∙ sym (cond_true S.auth _ [] e)))
-      (λ e. build-bare e ∙ sym (append-nil (framed S M F)) ∙ ap (λ (l : List ℕ). framed S M F ++ l) (sym (cond_false S.auth _ [] e)))
+      (λ e. build_bare e ∙ sym (append-nil (framed S M F)) ∙ ap (λ (l : List ℕ). framed S M F ++ l) (sym (cond_false S.auth _ [] e)))
 
-  pub build-whole : build S M F ≡ header_of S M (length (body_of S M F)) ++ (body_of S M F ++ trailer S M F)
+  pub build_whole : build S M F ≡ header_of S M (length (body_of S M F)) ++ (body_of S M F ++ trailer S M F)
   unfolding framed
-  build-whole = build_is ∙ append_assoc (header_of S M (length (body_of S M F))) (body_of S M F) (trailer S M F)
+  build_whole = build_is ∙ append_assoc (header_of S M (length (body_of S M F))) (body_of S M F) (trailer S M F)
 
   pub length-framed : length (framed S M F) ≡ 12 + length (body_of S M F)
   unfolding framed header_of
@@ -156,13 +156,13 @@ module _ (S : Suite) (L : Laws S) where
   decrypted_built iv payload p hi bi bp hp w =
       let x = plain_of payload p in
       let b = iv ++ S.enc iv x in
-      let size : length b ≡ 16 + length x = length-append iv (S.enc iv x) ∙ ap₂ (λ (i j : ℕ). i + j) hi (L.enc-length iv x w) in
+      let size : length b ≡ 16 + length x = length-append iv (S.enc iv x) ∙ ap₂ (λ (i j : ℕ). i + j) hi (L.enc_length iv x w) in
       let some : length x ≡ length payload + p + 1 = length-plain payload p in
       let long : 16 ≤ length b = omega arith in
       let rest : length b - 16 ≡ length x = omega arith in
       let full : length b - 16 ≡ 0 → ⊥ = λ e. omega arith in
       let plain : S.dec (take 16 b) (drop 16 b) ≡ x
-      = ap₂ S.dec (take_at iv (S.enc iv x) 16 hi) (drop_at iv (S.enc iv x) 16 hi) ∙ L.dec-enc iv x hi bi w (bytes-plain payload p bp hp) in
+      = ap₂ S.dec (take_at iv (S.enc iv x) 16 hi) (drop_at iv (S.enc iv x) 16 hi) ∙ L.dec_enc iv x hi bi w (bytes_plain payload p bp hp) in
       pass _ _ _ _ (le-leb _ _ long)
       (pass _ _ _ _ (eq-eqb _ _ (ap (λ (i : ℕ). i % 16) rest ∙ w))
       (pass _ _ _ _ (ap not (ne_eqb _ _ full))
@@ -176,21 +176,21 @@ module _ (S : Suite) (L : Laws S) where
         by_cases S.aes
         (λ e. cond_true S.aes (decrypted S (body_of S M F)) (accept (body_of S M F)) e
         ∙ ap (decrypted S) (cond_true S.aes (F.iv ++ S.enc F.iv (plain_of M.payload F.p)) M.payload e)
-        ∙ decrypted_built F.iv M.payload F.p (ok.iv-size e) (ok.iv-bytes e) ok.payload-bytes (ok.p-fits e) (ok.whole e))
+        ∙ decrypted_built F.iv M.payload F.p (ok.iv_size e) (ok.iv_bytes e) ok.payload_bytes (ok.p_fits e) (ok.whole e))
         (λ e. cond_false S.aes (decrypted S (body_of S M F)) (accept (body_of S M F)) e
         ∙ ap accept (cond_false S.aes (F.iv ++ S.enc F.iv (plain_of M.payload F.p)) M.payload e))
 
-    framed-body : body_in S (framed S M F) ≡ accept M.payload
+    framed_body : body_in S (framed S M F) ≡ accept M.payload
     unfolding framed
-    framed-body = body_built S M (body_of S M F) ok.body-fits payload_built
+    framed_body = body_built S M (body_of S M F) ok.body_fits payload_built
 
-    pub length-trailer : length (trailer S M F) ≤ 257 + S.m
+    pub length_trailer : length (trailer S M F) ≤ 257 + S.m
     unfolding trailer
-    length-trailer =
+    length_trailer =
         by_cases S.auth
-        (λ e. let few : length F.pads ≤ 255 = ok.pads-few e in
+        (λ e. let few : length F.pads ≤ 255 = ok.pads_few e in
         let size : length (F.pads ++ (length F.pads ∷ 0x07 ∷ S.mac (covered S M F))) ≤ 257 + S.m
-        = simp length-append (omega (arith, L.mac-length (covered S M F))) in
+        = simp length-append (omega (arith, L.mac_length (covered S M F))) in
         rw (cond_true S.auth (F.pads ++ (length F.pads ∷ 0x07 ∷ S.mac (covered S M F))) [] e) size)
         (λ e. let size : length {A = ℕ} [] ≤ 257 + S.m = omega arith in
         rw (cond_false S.auth (F.pads ++ (length F.pads ∷ 0x07 ∷ S.mac (covered S M F))) [] e) size)
@@ -203,9 +203,9 @@ module _ (S : Suite) (L : Laws S) where
         (λ e.
         let C = covered S M F in
         let l = build S M F in
-        let split : l ≡ C ++ S.mac C = build-auth S M F e in
+        let split : l ≡ C ++ S.mac C = build_auth S M F e in
         let size : length C ≡ length (framed S M F) + length F.pads + 2 = simp (length-append, length-append) (omega arith) in
-        let long : length l ≡ length C + S.m = ap length split ∙ length-append C (S.mac C) ∙ ap (λ (n : ℕ). length C + n) (L.mac-length C) in
+        let long : length l ≡ length C + S.m = ap length split ∙ length-append C (S.mac C) ∙ ap (λ (n : ℕ). length C + n) (L.mac_length C) in
         let cover : coverage S l ≡ length C = omega arith in
         let code : code_of S l ≡ S.mac C = ap S.mac (ap₂ take cover split ∙ take_at C (S.mac C) (length C) refl) in
         let enough : S.m + 2 ≤ length l = omega arith in
@@ -223,7 +223,7 @@ module _ (S : Suite) (L : Laws S) where
         ∙ get_or_at (framed S M F ++ F.pads) (length F.pads) (0x07 ∷ S.mac C) 0 (length C - 2) atq)
         ∙ ap accept start)
         (λ e. cond_false S.auth (trailer_of S (code_of S (build S M F)) (build S M F)) (accept (length (build S M F))) e
-        ∙ ap accept (ap length (build-bare S M F e)))
+        ∙ ap accept (ap length (build_bare S M F e)))
 
     pub complete : read_of S (build S M F) ≡ accept M
     unfolding read_of read_with rest_of payload_behind
@@ -231,12 +231,12 @@ module _ (S : Suite) (L : Laws S) where
         let l = build S M F in
         let b = body_of S M F in
         let h = header_of S M (length b) in
-        let whole : l ≡ h ++ (b ++ (trailer S M F)) = build-whole S M F in
-        let fits : length (b ++ (trailer S M F)) + 12 ≤ longest_packet S = simp length-append (omega (arith, length-trailer, ok.body-fits)) in
-        then_accept (head_of S l) (rest_of S (code_of S l) l) M.ty (ap (head_of S) whole ∙ head_built S M (length b) (b ++ (trailer S M F)) ok.ty-known fits)
+        let whole : l ≡ h ++ (b ++ (trailer S M F)) = build_whole S M F in
+        let fits : length (b ++ (trailer S M F)) + 12 ≤ longest_packet S = simp length-append (omega (arith, length_trailer, ok.body_fits)) in
+        then_accept (head_of S l) (rest_of S (code_of S l) l) M.ty (ap (head_of S) whole ∙ head_built S M (length b) (b ++ (trailer S M F)) ok.ty_known fits)
         ∙ then_accept (payload_behind S (code_of S l) l) _ M.payload
         (then_accept (before_trailer S (code_of S l) l) _ (length (framed S M F)) trailer_built
         ∙ ap (body_in S) (ap (take (length (framed S M F))) (build_is S M F) ∙ take_at (framed S M F) (trailer S M F) (length (framed S M F)) refl)
-        ∙ framed-body)
+        ∙ framed_body)
         ∙ ap accept (ap (λ (x : List ℕ). message_of M.ty x M.payload) whole
-        ∙ message_built S M (length b) (b ++ (trailer S M F)) ok.id-fits ok.seq-fits)
+        ∙ message_built S M (length b) (b ++ (trailer S M F)) ok.id_fits ok.seq_fits)

@@ -83,9 +83,9 @@ module _ (dec : List ℕ → List ℕ → List ℕ → List ℕ) (same_size : (k
       (same_size K (part l 12 16) (part l 28 (body_length l - 16)) whole ∙ long ∙ sym size)
 
 module _ (S : Suite) (l : List ℕ) where
-  pub opened-bare : S.aes ≡ false → l ≡ opened S l
+  pub opened_bare : S.aes ≡ false → l ≡ opened S l
   unfolding opened
-  opened-bare e = sym (cond_false S.aes _ l e)
+  opened_bare e = sym (cond_false S.aes _ l e)
 
   opened-part : S.aes ≡ true → (x : List ℕ) → x ≡ pasted l 28 (S.dec (part l 12 16) (part l 28 (body_length l - 16))) → x ≡ opened S l
   unfolding opened
@@ -96,7 +96,7 @@ module _ (S : Suite) (l : List ℕ) where
   open_bare e = by (openable l)
     where
       by : (b : Bool) → l ≡ cond b (opened S l) l
-      by true = opened-bare e
+      by true = opened_bare e
       by false = refl
 
   pub open_none : openable l ≡ false → l ≡ cond (openable l) (opened S l) l
@@ -107,55 +107,55 @@ module _ (S : Suite) (l : List ℕ) where
   open_done a e x f = opened-part a x f ∙ sym (cond_true (openable l) (opened S l) l e)
 
   -- the body of an accepted packet is whole blocks within it
-  body-whole : (b payload : List ℕ) → S.aes ≡ true → payload_in S b ≡ accept payload → (16 ≤ length b) × ((length b - 16) % 16 ≡ 0)
+  body_whole : (b payload : List ℕ) → S.aes ≡ true → payload_in S b ≡ accept payload → (16 ≤ length b) × ((length b - 16) % 16 ≡ 0)
   unfolding payload_in decrypted
-  body-whole b payload a e =
+  body_whole b payload a e =
       let t1 = need_inv _ _ _ _ (sym (cond_true S.aes (decrypted S b) (accept b) a) ∙ e) in
       let t2 = need_inv _ _ _ _ t1.1 in
       (leb-true _ _ t1.0, eqb-true _ _ t2.0)
 
-  left-openable : (n : ℕ) (payload : List ℕ) → S.aes ≡ true → body_in S (take n l) ≡ accept payload → Openable l
+  left_openable : (n : ℕ) (payload : List ℕ) → S.aes ≡ true → body_in S (take n l) ≡ accept payload → Openable l
   unfolding body_in
-  left-openable n payload a e =
+  left_openable n payload a e =
       let t1 = need_inv _ _ _ _ e in
       let t2 = need_inv _ _ _ _ t1.1 in
       let long : 12 ≤ length (take n l) = leb-true _ _ t1.0 in
       let told : body_length (take n l) ≡ length (take n l) - 12 = eqb-true _ _ t2.0 in
-      let b = body-whole (drop 12 (take n l)) payload a t2.1 in
+      let b = body_whole (drop 12 (take n l)) payload a t2.1 in
       let rest : length (drop 12 (take n l)) ≡ length (take n l) - 12 = length-drop 12 (take n l) in
       let same_length : body_length (take n l) ≡ body_length l = length_front l n (omega (arith, length-take n l)) (omega (arith, length-take n l)) in
       let size : length (drop 12 (take n l)) ≡ body_length l = omega arith in
       (omega (arith, b.0), ap (λ (k : ℕ). (k - 16) % 16) (sym size) ∙ b.1, omega (arith, length-take n l))
 
   -- an accepted packet can be opened
-  pub accepted-openable : (M : Message) → S.aes ≡ true → read_of S l ≡ accept M → openable l ≡ true
+  pub accepted_openable : (M : Message) → S.aes ≡ true → read_of S l ≡ accept M → openable l ≡ true
   unfolding read_of read_with rest_of payload_behind
-  accepted-openable M a e =
+  accepted_openable M a e =
       let h = then_inv (head_of S l) (rest_of S (code_of S l) l) M e in
       let b = then_inv (payload_behind S (code_of S l) l) _ M h.2 in
       let t = then_inv (before_trailer S (code_of S l) l) _ b.0 b.1 in
-      openable_is l (left-openable t.0 b.0 a t.2)
+      openable_is l (left_openable t.0 b.0 a t.2)
 
   -- so opening leaves it opened
-  accepted-opened : (M : Message) → read_of S l ≡ accept M → cond (openable l) (opened S l) l ≡ opened S l
-  accepted-opened M e =
+  accepted_opened : (M : Message) → read_of S l ≡ accept M → cond (openable l) (opened S l) l ≡ opened S l
+  accepted_opened M e =
       by_cases S.aes
-      (λ a. cond_true (openable l) (opened S l) l (accepted-openable M a e))
-      (λ a. sym (open_bare a) ∙ opened-bare a)
+      (λ a. cond_true (openable l) (opened S l) l (accepted_openable M a e))
+      (λ a. sym (open_bare a) ∙ opened_bare a)
 
   -- what was told says whether it was accepted
   module _ (x : Res Shown) (e : x ≡ shown (read_of S l)) where
-    pub left-opened : accepts x ≡ true → cond (openable l) (opened S l) l ≡ left_of S l
+    pub left_opened : accepts x ≡ true → cond (openable l) (opened S l) l ≡ left_of S l
     unfolding left_of
-    left-opened h = by (read_of S l) refl
+    left_opened h = by (read_of S l) refl
       where
         by : (r : Res Message) → read_of S l ≡ r → cond (openable l) (opened S l) l ≡ left_by (read_of S l) l (opened S l)
         by (refuse n v) f = absurd (false≢true (sym (ap accepts (e ∙ shown_stop (read_of S l) n v f)) ∙ h))
-        by (accept M) f = accepted-opened M f ∙ sym (ap (λ (r : Res Message). left_by r l (opened S l)) f)
+        by (accept M) f = accepted_opened M f ∙ sym (ap (λ (r : Res Message). left_by r l (opened S l)) f)
 
-    pub left-found : accepts x ≡ false → l ≡ left_of S l
+    pub left_found : accepts x ≡ false → l ≡ left_of S l
     unfolding left_of shown
-    left-found h = by (read_of S l) refl
+    left_found h = by (read_of S l) refl
       where
         by : (r : Res Message) → read_of S l ≡ r → l ≡ left_by (read_of S l) l (opened S l)
         by (refuse n v) f = sym (ap (λ (r : Res Message). left_by r l (opened S l)) f)
@@ -163,20 +163,20 @@ module _ (S : Suite) (l : List ℕ) where
 
 -- the outer call: what is told, the blocks and the buffer, one law for each way out
 module _ (S : Suite) (d : List ℕ) (x : Res (Unit {0})) (e : x ≡ outer_of d) where
-  pub outer-no : (n v : ℕ) → x ≡ refuse n v → (refuse n v ≡ shown (read_datagram_of S d)) × (0 ≡ blocks_datagram S d) × (d ≡ left_datagram S d)
+  pub outer_no : (n v : ℕ) → x ≡ refuse n v → (refuse n v ≡ shown (read_datagram_of S d)) × (0 ≡ blocks_datagram S d) × (d ≡ left_datagram S d)
   unfolding read_datagram_of blocks_datagram left_datagram
-  outer-no n v f =
+  outer_no n v f =
       let none : read_datagram_of S d ≡ refuse n v = then_refuse (outer_of d) _ n v (sym e ∙ f) in (
         sym (shown_stop (read_datagram_of S d) n v none),
         sym (ap (λ (t : Res (Unit {0})). cond (accepts t) (blocks_of S (drop 4 d)) 0) (sym e ∙ f)),
         sym (ap (λ (t : Res Message). left_by t d (take 4 d ++ opened S (drop 4 d))) none),
       )
 
-  pub outer-on : (u : Unit {0}) (a : Res Shown) (n : ℕ) (l y : List ℕ) → x ≡ accept u → l ≡ take (length d - 4) (drop 4 d)
+  pub outer_on : (u : Unit {0}) (a : Res Shown) (n : ℕ) (l y : List ℕ) → x ≡ accept u → l ≡ take (length d - 4) (drop 4 d)
       → a ≡ shown (read_of S l) → n ≡ blocks_of S l → y ≡ left_of S l
       → (a ≡ shown (read_datagram_of S d)) × (n ≡ blocks_datagram S d) × (take 4 d ++ (y ++ drop (length d - 4) (drop 4 d)) ≡ left_datagram S d)
   unfolding read_datagram_of blocks_datagram left_datagram left_of
-  outer-on u a n l y g f told count left =
+  outer_on u a n l y g f told count left =
       let inner : read_datagram_of S d ≡ read_of S (drop 4 d) = then_accept (outer_of d) _ u (sym e ∙ g) in
       let over : length (drop 4 d) ≤ length d - 4 = omega (arith, length-drop 4 d) in
       let rest : drop (length d - 4) (drop 4 d) ≡ [] = drop_of_length-le (drop 4 d) over in
@@ -185,9 +185,9 @@ module _ (S : Suite) (d : List ℕ) (x : Res (Unit {0})) (e : x ≡ outer_of d) 
         count ∙ ap (blocks_of S) packet ∙ sym (ap (λ (t : Res (Unit {0})). cond (accepts t) (blocks_of S (drop 4 d)) 0) (sym e ∙ g)),
         ap (λ (z : List ℕ). take 4 d ++ z)
             (ap (λ (z : List ℕ). y ++ z) rest ∙ append-nil y ∙ left ∙ ap (λ (z : List ℕ). left_by (read_of S z) z (opened S z)) packet)
-            ∙ outer-left (read_of S (drop 4 d)) ∙ ap (λ (z : Res Message). left_by z d (take 4 d ++ opened S (drop 4 d))) (sym inner),
+            ∙ outer_left (read_of S (drop 4 d)) ∙ ap (λ (z : Res Message). left_by z d (take 4 d ++ opened S (drop 4 d))) (sym inner),
       )
     where
-      outer-left : (r : Res Message) → take 4 d ++ left_by r (drop 4 d) (opened S (drop 4 d)) ≡ left_by r d (take 4 d ++ opened S (drop 4 d))
-      outer-left (refuse n v) = take-append-drop 4 d
-      outer-left (accept M) = refl
+      outer_left : (r : Res Message) → take 4 d ++ left_by r (drop 4 d) (opened S (drop 4 d)) ≡ left_by r d (take 4 d ++ opened S (drop 4 d))
+      outer_left (refuse n v) = take-append-drop 4 d
+      outer_left (accept M) = refl

@@ -9,11 +9,11 @@ use lib.Dec.{leb, eqb}
 use lib.Seq.{length-take-le}
 use borrow.Author.Tests.{le-leb, lt-leb, eq-eqb}
 use Rattle.refusal.specs.Order.{Res, refuse, accept, need, and_then}
-use Rattle.refusal.proofs.Order.{pass, need-no, then_accept, then_refuse}
+use Rattle.refusal.proofs.Order.{pass, need_no, then_accept, then_refuse}
 use Rattle.octets.specs.Number.{le}
 use Rattle.hmac.specs.Count.{ceiling}
 use Rattle.running.specs.Hash.{Hash, Sized}
-use Rattle.running.proofs.Sizes.{mac_count-short}
+use Rattle.running.proofs.Sizes.{mac_count_short}
 use Rattle.framing.specs.Known.{known}
 use Rattle.framing.specs.Suite.{Suite}
 use Rattle.framing.specs.Packet.{Message, Filling, bit, plain_of, body_of, header_of, framed, covered, build}
@@ -24,9 +24,9 @@ use Rattle.framing.specs.Outer.{outer, write_of, write_datagram_of}
 use Rattle.framing.specs.Marked.{Every, Taken, filling_of, size_of, Writes, Sealed, Encrypted, Both, Body, Padded}
 use Rattle.framing.specs.Marked.{TooFew, GoesOn, Compresses, marked_cases}
 use Rattle.octets.proofs.Order.{by_cases, cond_true, cond_false}
-use Rattle.framing.proofs.Complete.{trailer_is, build-bare}
-use Rattle.framing.proofs.RoundTrip.{size-body, size-ours}
-use Rattle.framing.proofs.Rooms.{room_14, room-done}
+use Rattle.framing.proofs.Complete.{trailer_is, build_bare}
+use Rattle.framing.proofs.RoundTrip.{size_body, size_ours}
+use Rattle.framing.proofs.Rooms.{room_14, room_done}
 
 -- what follows once head and trailer let a packet pass
 reached : (S : Suite) (l : List ℕ) (ty k : ℕ) {r : Res Message} → head_of S l ≡ accept ty → before_trailer S (code_of S l) l ≡ accept k
@@ -55,9 +55,9 @@ module _ (S : Suite) (M : Message) (iv : List ℕ) (z : Taken) (hp : S.aes ≡ t
       (λ a i. cond S.aes (iv ++ S.enc iv (plain_of M.payload (hp a i))) M.payload)
       (λ a. cond_false S.aes _ M.payload a ∙ sym (cond_false S.aes _ M.payload a))
 
-  same-packet : ours S M iv ≡ build S M (filling_of iv z)
+  same_packet : ours S M iv ≡ build S M (filling_of iv z)
   unfolding ours
-  same-packet = same-build S M _ _ same_body (ap (λ (k : ℕ). replicate k 0xFF) (ap (λ (b : ℕ). least_q (12 + b)) hb ∙ hq))
+  same_packet = same-build S M _ _ same_body (ap (λ (k : ℕ). replicate k 0xFF) (ap (λ (b : ℕ). least_q (12 + b)) hb ∙ hq))
 
   same_size : packet_size S n ≡ size_of S z
   same_size =
@@ -71,14 +71,14 @@ module _ (S : Suite) (M : Message) (iv : List ℕ) (z : Taken) (hp : S.aes ≡ t
     unfolding write_after
     written before room k =
         let size : length before + size_of S z ≡ length before + packet_size S n = ap (λ (i : ℕ). length before + i) (sym same_size) in
-        then_accept _ _ _ (sym (room-done S (length before) n room h g _ size k)) ∙ ap (λ (x : List ℕ). accept (before ++ x)) same-packet
+        then_accept _ _ _ (sym (room_done S (length before) n room h g _ size k)) ∙ ap (λ (x : List ℕ). accept (before ++ x)) same_packet
 
     writes : Writes S M iv z
     unfolding write_of write_datagram_of
     writes =
         record {
-          body = λ K hi. ap length (sym same_body) ∙ size-body S M iv hi K ∙ hb;
-          size = λ L hi. ap length (sym same-packet) ∙ size-ours S M iv hi L ∙ same_size;
+          body = λ K hi. ap length (sym same_body) ∙ size_body S M iv hi K ∙ hb;
+          size = λ L hi. ap length (sym same_packet) ∙ size_ours S M iv hi L ∙ same_size;
           packet = λ room k. written [] room (omega arith);
           datagram = written outer;
         }
@@ -129,17 +129,17 @@ body n r f S a l ty d e =
 
 body_15 : Body 15 1
 unfolding decrypted
-body_15 = body 15 1 (λ S b h. need-no _ _ _ _ (ap (leb 16) h))
+body_15 = body 15 1 (λ S b h. need_no _ _ _ _ (ap (leb 16) h))
 
 body_16 : Body 16 10
 unfolding decrypted
 body_16 =
     body 16 10 (λ S b h. pass _ _ _ _ (ap (leb 16) h)
-    (pass _ _ _ _ (ap (λ (k : ℕ). eqb ((k - 16) % 16) 0) h) (need-no _ _ _ _ (ap (λ (k : ℕ). not (eqb (k - 16) 0)) h))))
+    (pass _ _ _ _ (ap (λ (k : ℕ). eqb ((k - 16) % 16) 0) h) (need_no _ _ _ _ (ap (λ (k : ℕ). not (eqb (k - 16) 0)) h))))
 
 body_31 : Body 31 12
 unfolding decrypted
-body_31 = body 31 12 (λ S b h. pass _ _ _ _ (ap (leb 16) h) (need-no _ _ _ _ (ap (λ (k : ℕ). eqb ((k - 16) % 16) 0) h)))
+body_31 = body 31 12 (λ S b h. pass _ _ _ _ (ap (leb 16) h) (need_no _ _ _ _ (ap (λ (k : ℕ). eqb ((k - 16) % 16) 0) h)))
 
 -- the trailer of a padded packet
 padded : (S : Suite) (l : List ℕ) (ty q : ℕ) → Padded S l ty q → before_trailer S (code_of S l) l ≡ accept (20 - q)
@@ -155,7 +155,7 @@ unfolding body_in
 too_few q h S l ty d =
     let fits : 20 - q ≤ length l = omega (arith, d.size) in
     let few : length (take (20 - q) l) < 12 = subst (λ (k : ℕ). k < 12) (sym (length-take-le (20 - q) l fits)) h in
-    reached S l ty (20 - q) d.head (padded S l ty q d) (then_refuse _ _ 1 0 (need-no _ _ _ _ (lt-leb _ _ few)))
+    reached S l ty (20 - q) d.head (padded S l ty q d) (then_refuse _ _ 1 0 (need_no _ _ _ _ (lt-leb _ _ few)))
 
 goes_on : GoesOn 8 0
 unfolding body_in
@@ -187,22 +187,22 @@ first_read S a g =
     (then_accept _ _ said.payload
     (pass _ _ _ _ refl (pass _ _ _ _ refl (cond_false S.aes (decrypted S said.payload) (accept said.payload) a))))
 
-first-written : (S : Suite) → S.aes ≡ false → S.auth ≡ false → (iv : List ℕ) → write_of S said iv (length bytes) ≡ accept bytes
+first_written : (S : Suite) → S.aes ≡ false → S.auth ≡ false → (iv : List ℕ) → write_of S said iv (length bytes) ≡ accept bytes
 unfolding write_of write_after room_of ours framed header_of body_of
-first-written S a g iv =
+first_written S a g iv =
     let F : Filling = our_filling S iv said.payload in
     let x : List ℕ = F.iv ++ S.enc F.iv (plain_of said.payload F.p) in
     let size : 0 + packet_size S 2 ≡ 14 = λ i. 0 + (12 + body_size (a i) 2 + trailer_size (g i) S.m (12 + body_size (a i) 2)) in
     then_accept _ _ 14
     (pass _ _ _ _ refl (pass _ _ _ _ (ap (λ (b : Bool). leb 2 (longest_payload b)) a) (pass _ _ _ _ (ap (λ (k : ℕ). leb k 14) size) (ap accept size))))
-    ∙ ap accept (build-bare S said F g
+    ∙ ap accept (build_bare S said F g
     ∙ (λ i.
     (0x06 ∷ (128 * bit (a i) + 64 * bit (g i) + 0) ∷ (le 4 0x0A0B0C0D ++ (le 4 1 ++ le 2 (length (cond (a i) x said.payload)))))
     ++ cond (a i) x said.payload))
 
 -- the count is a formula of the length
 compresses : {C : Type 0} (H : Hash C) → Sized H → (n b : ℕ) → ceiling (n + 73) 64 + 2 ≡ b → Compresses H n b
-compresses H z n b e k l h g = mac_count-short H z k l h ∙ ap (λ (i : ℕ). ceiling (i + 73) 64 + 2) g ∙ e
+compresses H z n b e k l h g = mac_count_short H z k l h ∙ ap (λ (i : ℕ). ceiling (i + 73) 64 + 2) g ∙ e
 
 infixr 20 ◌also◌
 ◌also◌ : {A B : Type 0} → A → B → A × B
@@ -210,7 +210,7 @@ infixr 20 ◌also◌
 
 pub marked : {C : Type 0} (H : Hash C) → Sized H → Every (marked_cases H)
 marked H z =
-    record { reads = first_read; writes = first-written }
+    record { reads = first_read; writes = first_written }
     also sealed 0 2 28 refl (omega arith) refl
     also sealed 1 1 28 refl (omega arith) refl
     also sealed 2 0 28 refl (omega arith) refl

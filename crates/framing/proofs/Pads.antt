@@ -30,8 +30,8 @@ module _ (x : List ℕ) (a p : ℕ) (h : a + p ≤ length x) where
   at_part i g = get_or-take p (drop a x) i 0 g ∙ get_or-drop a x i 0
 
   -- all as they ought to be
-  pub pads-right : ((k : ℕ) → k < p → get_or x (a + k) 0 ≡ k + 1) → true ≡ same (part x a p) (counting p)
-  pads-right f =
+  pub pads_right : ((k : ℕ) → k < p → get_or x (a + k) 0 ≡ k + 1) → true ≡ same (part x a p) (counting p)
+  pads_right f =
       let size : length (part x a p) ≡ p = length-take-le p (drop a x) (omega (arith, length-drop a x)) in
       let e : part x a p ≡ counting p
       = ext_get_or 0 (part x a p) (counting p) (size ∙ sym (length-counting p))

@@ -15,9 +15,9 @@ module _ (l : List ℕ) (b : Bool) (n a : ℕ) (e : a ≡ payload_start b) where
     fits : payload_fits l b n ≡ true
     fits = le-leb (payload_start b + n) (length l) (omega arith)
 
-    pub part-given : take (a + n - a) (drop a l) ≡ payload_of l b n
+    pub part_given : take (a + n - a) (drop a l) ≡ payload_of l b n
     unfolding payload_of
-    part-given =
+    part_given =
         let size : a + n - a ≡ n = omega arith in
         ap (λ (k : ℕ). take k (drop a l)) size ∙ ap (λ (k : ℕ). part l k n) e ∙ sym (cond_true (payload_fits l b n) (part l (payload_start b) n) [] fits)
 

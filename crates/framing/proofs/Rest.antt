@@ -24,9 +24,9 @@ counted_stop (refuse n v) m w e = (λ i. refuse (number i) (value i))
     value = cc
 counted_stop (accept x) m w e = absurd (refuse≢accept m w (length x) (sym e))
 
-counted-go : (r : Res (List ℕ)) (n : ℕ) → counted r ≡ accept n → (x : List ℕ) × (r ≡ accept x) × (length x ≡ n)
+counted_go : (r : Res (List ℕ)) (n : ℕ) → counted r ≡ accept n → (x : List ℕ) × (r ≡ accept x) × (length x ≡ n)
 unfolding counted
-counted-go r n e = let f = then_inv r _ n e in (f.0, f.1, accept_inj _ _ f.2)
+counted_go r n e = let f = then_inv r _ n e in (f.0, f.1, accept_inj _ _ f.2)
 
 pub shown_stop : (r : Res Message) (n v : ℕ) → r ≡ refuse n v → shown r ≡ refuse n v
 unfolding shown
@@ -49,11 +49,11 @@ module _ (S : Suite) (code l : List ℕ) where
     rest_stop n v f =
         sym (shown_stop (rest_of S code l ty) n v (then_refuse (payload_behind S code l) _ n v (counted_stop (payload_behind S code l) n v (sym e ∙ f))))
 
-    pub rest-go : (n i q : ℕ) → r ≡ accept n → i ≡ unle (part l 2 4) → q ≡ unle (part l 6 4)
+    pub rest_go : (n i q : ℕ) → r ≡ accept n → i ≡ unle (part l 2 4) → q ≡ unle (part l 6 4)
         → accept (record { ty = ty; id = i; seq = q; len = n }) ≡ shown (rest_of S code l ty)
     unfolding rest_of shown
-    rest-go n i q f hi hq =
-        let found = counted-go (payload_behind S code l) n (sym e ∙ f) in
+    rest_go n i q f hi hq =
+        let found = counted_go (payload_behind S code l) n (sym e ∙ f) in
         let M : Message = message_of ty l found.0 in
         (λ j. accept (record { ty = ty; id = hi j; seq = hq j; len = sym found.2 j }))
         ∙ sym (then_accept (rest_of S code l ty) _ M (then_accept (payload_behind S code l) _ found.0 found.1))

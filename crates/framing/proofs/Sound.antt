@@ -18,44 +18,44 @@ use Rattle.framing.specs.Suite.{Suite, Laws}
 use Rattle.framing.specs.Packet.{Message, Filling, Legal, bit, counting, plain_of, body_of, header_of, framed, covered, build}
 use Rattle.framing.specs.Read.{longest_packet, message_of, body_length, head_of, coverage, code_of, trailer_of, before_trailer, unpadded, decrypted}
 use Rattle.framing.specs.Read.{payload_in, body_in, payload_behind, rest_of, read_of, read_with}
-use Rattle.octets.proofs.Bytes.{bytes_take, bytes_drop, bytes-part}
+use Rattle.octets.proofs.Bytes.{bytes_take, bytes_drop, bytes_part}
 use Rattle.octets.proofs.Number.{le-unle}
 use Rattle.octets.proofs.Equal.{same_true}
 use Rattle.octets.proofs.Order.{by_cases, cond_true, cond_false}
 use Rattle.framing.proofs.Tests.{flags_back}
 
 -- two elements
-take-two : (l : List ℕ) (j : ℕ) → j + 2 ≤ length l → take 2 (drop j l) ≡ get_or l j 0 ∷ get_or l (j + 1) 0 ∷ []
-take-two l j h =
+take_two : (l : List ℕ) (j : ℕ) → j + 2 ≤ length l → take 2 (drop j l) ≡ get_or l j 0 ∷ get_or l (j + 1) 0 ∷ []
+take_two l j h =
     let first : j < length l = omega arith in
     let second : suc j < length l = omega arith in
     ap (take 2) (drop-cons l j 0 first ∙ ap (λ (x : List ℕ). get_or l j 0 ∷ x) (drop-cons l (suc j) 0 second))
     ∙ ap (λ (n : ℕ). get_or l j 0 ∷ get_or l n 0 ∷ []) (sym (add-one j))
 
 -- a number's bytes come back where so many are there
-part-number : (l : List ℕ) (a w : ℕ) → Bytes l → a + w ≤ length l → le w (unle (part l a w)) ≡ part l a w
-part-number l a w h g =
+part_number : (l : List ℕ) (a w : ℕ) → Bytes l → a + w ≤ length l → le w (unle (part l a w)) ≡ part l a w
+part_number l a w h g =
     let size : length (part l a w) ≡ w = length-take-le w (drop a l) (rw (length-drop a l) (omega arith)) in
-    ap (λ (n : ℕ). le n (unle (part l a w))) (sym size) ∙ le-unle (part l a w) (bytes-part l a w h)
+    ap (λ (n : ℕ). le n (unle (part l a w))) (sym size) ∙ le-unle (part l a w) (bytes_part l a w h)
 
 positive : (n : ℕ) → (n ≡ 0 → ⊥) → 1 ≤ n
 positive zero h = absurd (h refl)
 positive (suc n) h = omega arith
 
 -- numbers of four and of two bytes fit
-four-fit : (x : List ℕ) → Bytes x → length x ≡ 4 → unle x < 0x100000000
-four-fit [] h e = omega arith
-four-fit (a ∷ []) h e = omega arith
-four-fit (a ∷ b ∷ []) h e = omega arith
-four-fit (a ∷ b ∷ c ∷ []) h e = omega arith
-four-fit (a ∷ b ∷ c ∷ d ∷ []) h e = omega (arith, h 0, h 1, h 2, h 3)
-four-fit (a ∷ b ∷ c ∷ d ∷ f ∷ x) h e = omega arith
+four_fit : (x : List ℕ) → Bytes x → length x ≡ 4 → unle x < 0x100000000
+four_fit [] h e = omega arith
+four_fit (a ∷ []) h e = omega arith
+four_fit (a ∷ b ∷ []) h e = omega arith
+four_fit (a ∷ b ∷ c ∷ []) h e = omega arith
+four_fit (a ∷ b ∷ c ∷ d ∷ []) h e = omega (arith, h 0, h 1, h 2, h 3)
+four_fit (a ∷ b ∷ c ∷ d ∷ f ∷ x) h e = omega arith
 
-two-fit : (x : List ℕ) → Bytes x → length x ≡ 2 → unle x ≤ 65535
-two-fit [] h e = omega arith
-two-fit (a ∷ []) h e = omega arith
-two-fit (a ∷ b ∷ []) h e = omega (arith, h 0, h 1)
-two-fit (a ∷ b ∷ c ∷ x) h e = omega arith
+two_fit : (x : List ℕ) → Bytes x → length x ≡ 2 → unle x ≤ 65535
+two_fit [] h e = omega arith
+two_fit (a ∷ []) h e = omega arith
+two_fit (a ∷ b ∷ []) h e = omega (arith, h 0, h 1)
+two_fit (a ∷ b ∷ c ∷ x) h e = omega arith
 
 -- what was decrypted is the payload, the pad and its count
 pub unpad_inv : (x payload : List ℕ) → 1 ≤ length x → unpadded x ≡ accept payload → x ≡ plain_of payload (get_or x (length x - 1) 0)
@@ -91,7 +91,7 @@ pub record Headed (S : Suite) (l : List ℕ) (ty : ℕ) : Type 0 where
   pub long : 10 ≤ length l
   pub first : get_or l 0 0 ≡ 0x06
   pub ty_is : ty ≡ get_or l 1 0 % 64
-  pub ty-known : known (get_or l 1 0 % 64) ≡ true
+  pub ty_known : known (get_or l 1 0 % 64) ≡ true
   pub seven : get_or l 1 0 / 128 % 2 ≡ bit S.aes
   pub six : get_or l 1 0 / 64 % 2 ≡ bit S.auth
   pub short : length l ≤ longest_packet S
@@ -109,7 +109,7 @@ head_inv S l ty e =
       long = leb-true _ _ t1.0;
       first = eqb-true _ _ t2.0;
       ty_is = sym (accept_inj _ _ t6.1);
-      ty-known = t3.0;
+      ty_known = t3.0;
       seven = eqb-true _ _ t4.0;
       six = eqb-true _ _ t5.0;
       short = leb-true _ _ t6.0;
@@ -123,13 +123,13 @@ header_inv S l ty payload hb h d =
     let flags : 128 * bit S.aes + 64 * bit S.auth + ty ≡ get_or l 1 0
     = flags_back S.aes S.auth (get_or l 1 0) ty (hb 1) d.seven d.six d.ty_is in
     let two : take 2 l ≡ 0x06 ∷ (128 * bit S.aes + 64 * bit S.auth + ty) ∷ []
-    = take-two l 0 (omega arith) ∙ ap₂ (λ (a b : ℕ). a ∷ b ∷ []) d.first (sym flags) in
+    = take_two l 0 (omega arith) ∙ ap₂ (λ (a b : ℕ). a ∷ b ∷ []) d.first (sym flags) in
     let numbers : take 10 (drop 2 l) ≡ part l 2 4 ++ (part l 6 4 ++ part l 10 2)
     = take-add 4 6 (drop 2 l) ∙ ap (λ (x : List ℕ). part l 2 4 ++ x)
     (ap (take 6) (drop-drop 4 2 l) ∙ take-add 4 2 (drop 6 l) ∙ ap (λ (x : List ℕ). part l 6 4 ++ take 2 x) (drop-drop 4 6 l)) in
     take-add 2 10 l ∙ ap₂ (λ (a b : List ℕ). a ++ b) two
-    (numbers ∙ ap₂ (λ (a b : List ℕ). a ++ b) (sym (part-number l 2 4 hb (omega arith)))
-    (ap₂ (λ (a b : List ℕ). a ++ b) (sym (part-number l 6 4 hb (omega arith))) (sym (part-number l 10 2 hb (omega arith)))))
+    (numbers ∙ ap₂ (λ (a b : List ℕ). a ++ b) (sym (part_number l 2 4 hb (omega arith)))
+    (ap₂ (λ (a b : List ℕ). a ++ b) (sym (part_number l 6 4 hb (omega arith))) (sym (part_number l 10 2 hb (omega arith)))))
 
 -- the trailer that a code was found behind: what it covers, and the whole
 pub record Trailed (S : Suite) (code l : List ℕ) (n : ℕ) : Type 0 where
@@ -158,7 +158,7 @@ trailer_inv S code l n h e =
     let at : n + q ≡ k - 2 = omega arith in
     let next : k - 2 + 1 ≡ k - 1 = omega arith in
     let two : take 2 (drop q (drop n l)) ≡ q ∷ 0x07 ∷ []
-    = ap (take 2) (drop-drop q n l ∙ ap (λ (i : ℕ). drop i l) at) ∙ take-two l (k - 2) (omega arith)
+    = ap (take 2) (drop-drop q n l ∙ ap (λ (i : ℕ). drop i l) at) ∙ take_two l (k - 2) (omega arith)
     ∙ ap (λ (x : ℕ). q ∷ x ∷ []) (ap (λ (i : ℕ). get_or l i 0) next ∙ seven) in
     record {
       q = q;
@@ -175,10 +175,10 @@ trailer_inv S code l n h e =
 pub record Inside (S : Suite) (b payload : List ℕ) : Type 0 where
   pub iv : List ℕ
   pub p : ℕ
-  pub payload-bytes : Bytes payload
-  pub iv-size : S.aes ≡ true → length iv ≡ 16
-  pub iv-bytes : S.aes ≡ true → Bytes iv
-  pub p-fits : S.aes ≡ true → p ≤ 255
+  pub payload_bytes : Bytes payload
+  pub iv_size : S.aes ≡ true → length iv ≡ 16
+  pub iv_bytes : S.aes ≡ true → Bytes iv
+  pub p_fits : S.aes ≡ true → p ≤ 255
   pub whole : S.aes ≡ true → length (plain_of payload p) % 16 ≡ 0
   pub body : b ≡ cond S.aes (iv ++ S.enc iv (plain_of payload p)) payload
 
@@ -199,20 +199,20 @@ module _ (S : Suite) (L : Laws S) where
       let blocks' : length (drop 16 b) % 16 ≡ 0 = ap (λ (i : ℕ). i % 16) rest ∙ blocks in
       let hi : length iv ≡ 16 = length-take-le 16 b long in
       let bi : Bytes iv = bytes_take 16 b hb in
-      let size : length x ≡ length (drop 16 b) = L.dec-length iv (drop 16 b) blocks' in
+      let size : length x ≡ length (drop 16 b) = L.dec_length iv (drop 16 b) blocks' in
       let full : 1 ≤ length x = positive (length x) (λ z. some (sym rest ∙ sym size ∙ z)) in
       let plain : x ≡ plain_of payload p = unpad_inv x payload full t3.1 in
-      let bx : Bytes x = L.dec-bytes iv (drop 16 b) hi bi blocks' (bytes_drop 16 b hb) in
-      let back : S.enc iv x ≡ drop 16 b = L.enc-dec iv (drop 16 b) hi bi blocks' (bytes_drop 16 b hb) in
+      let bx : Bytes x = L.dec_bytes iv (drop 16 b) hi bi blocks' (bytes_drop 16 b hb) in
+      let back : S.enc iv x ≡ drop 16 b = L.enc_dec iv (drop 16 b) hi bi blocks' (bytes_drop 16 b hb) in
       record {
         iv = iv;
         p = p;
-        payload-bytes =
+        payload_bytes =
             subst Bytes (take_at payload (counting p ++ (p ∷ [])) (length payload) refl)
             (bytes_take (length payload) (plain_of payload p) (subst Bytes plain bx));
-        iv-size = λ _. hi;
-        iv-bytes = λ _. bi;
-        p-fits = λ _. omega (arith, bx (length x - 1));
+        iv_size = λ _. hi;
+        iv_bytes = λ _. bi;
+        p_fits = λ _. omega (arith, bx (length x - 1));
         whole = λ _. ap (λ (l : List ℕ). length l % 16) (sym plain) ∙ ap (λ (i : ℕ). i % 16) size ∙ blocks';
         body = sym (take-append-drop 16 b) ∙ ap (λ (l : List ℕ). iv ++ l) (sym back ∙ ap (S.enc iv) plain) ∙ sym (cond_true S.aes _ payload g);
       }
@@ -226,10 +226,10 @@ module _ (S : Suite) (L : Laws S) where
       record {
         iv = [];
         p = 0;
-        payload-bytes = subst Bytes same hb;
-        iv-size = λ t. absurd (false≢true (sym g ∙ t));
-        iv-bytes = λ t. absurd (false≢true (sym g ∙ t));
-        p-fits = λ t. omega arith;
+        payload_bytes = subst Bytes same hb;
+        iv_size = λ t. absurd (false≢true (sym g ∙ t));
+        iv_bytes = λ t. absurd (false≢true (sym g ∙ t));
+        p_fits = λ t. omega arith;
         whole = λ t. absurd (false≢true (sym g ∙ t));
         body = same ∙ sym (cond_false S.aes _ payload g);
       })
@@ -270,17 +270,17 @@ module _ (S : Suite) (L : Laws S) where
         let two : length (part (take n l) 10 2) ≡ 2 = length-take-le 2 (drop 10 (take n l)) (rw (length-drop 10 (take n l)) (omega arith)) in
         let body : length (drop 12 (take n l)) ≡ n - 12 = length-drop 12 (take n l) ∙ ap (λ (j : ℕ). j - 12) front in
         record {
-          ty-known = ap known d.ty_is ∙ d.ty-known;
-          id-fits = four-fit (part l 2 4) (bytes-part l 2 4 hb) (size 2 (omega arith));
-          seq-fits = four-fit (part l 6 4) (bytes-part l 6 4 hb) (size 6 (omega arith));
-          payload-bytes = i.payload-bytes;
-          body-fits = rw (← i.body) (rw body (rw (← e) (two-fit (part (take n l) 10 2) (bytes-part (take n l) 10 2 (bytes_take n l hb)) two)));
-          iv-size = i.iv-size;
-          iv-bytes = i.iv-bytes;
-          p-fits = i.p-fits;
+          ty_known = ap known d.ty_is ∙ d.ty_known;
+          id_fits = four_fit (part l 2 4) (bytes_part l 2 4 hb) (size 2 (omega arith));
+          seq_fits = four_fit (part l 6 4) (bytes_part l 6 4 hb) (size 6 (omega arith));
+          payload_bytes = i.payload_bytes;
+          body_fits = rw (← i.body) (rw body (rw (← e) (two_fit (part (take n l) 10 2) (bytes_part (take n l) 10 2 (bytes_take n l hb)) two)));
+          iv_size = i.iv_size;
+          iv_bytes = i.iv_bytes;
+          p_fits = i.p_fits;
           whole = i.whole;
-          pads-few = few;
-          pads-bytes = small;
+          pads_few = few;
+          pads_bytes = small;
         }
 
     Built : Message → Type 0
@@ -305,7 +305,7 @@ module _ (S : Suite) (L : Laws S) where
               let few : length (part l n q) ≤ 255 = omega (arith, hb (coverage S l - 2)) in
               let F : Filling = record { iv = i.iv; p = i.p; pads = part l n q } in (
                 F,
-                legal_inv payload (part l n q) n ty d fits least body i (λ _. few) (λ _. bytes-part l n q hb),
+                legal_inv payload (part l n q) n ty d fits least body i (λ _. few) (λ _. bytes_part l n q hb),
                 cond_true S.auth (covered S (message_of ty l payload) F ++ S.mac (covered S (message_of ty l payload) F))
                     (framed S (message_of ty l payload) F) g
                     ∙ ap (λ (x : List ℕ). x ++ S.mac x)

@@ -12,9 +12,9 @@ use Rattle.octets.proofs.Order.{by_cases}
 use Rattle.framing.specs.Known.{known, type_numbers}
 use Rattle.framing.specs.Packet.{bit}
 
-pub bit-small : (b : Bool) → bit b ≤ 1
-bit-small true = omega arith
-bit-small false = omega arith
+pub bit_small : (b : Bool) → bit b ≤ 1
+bit_small true = omega arith
+bit_small false = omega arith
 
 -- the second byte gives back the type and the two bits
 pub flag_type : (a g : Bool) (t : ℕ) → t < 64 → (128 * bit a + 64 * bit g + t) % 64 ≡ t

@@ -7,7 +7,7 @@ use mathlib.Core.Path.{◌≡◌, sym, ◌∙◌, ap}
 use lib.ListN.{length, get_or, take, drop}
 use borrow.Author.Tests.{le-leb, lt-leb, eq-eqb, ne_eqb}
 use Rattle.refusal.specs.Order.{Res, refuse, accept}
-use Rattle.refusal.proofs.Order.{pass, need-no, need_inv, accept_inj}
+use Rattle.refusal.proofs.Order.{pass, need_no, need_inv, accept_inj}
 use Rattle.octets.specs.Equal.{same}
 use Rattle.octets.proofs.Place.{to_end}
 use Rattle.framing.specs.Suite.{Suite}
@@ -23,7 +23,7 @@ module _ (S : Suite) (code l : List ℕ) (m : ℕ) (em : m ≡ S.m) where
 
   pub trailer_6 : length l < m → refuse 6 0 ≡ trailer_of S code l
   unfolding trailer_of
-  trailer_6 h = let g : length l < S.m = omega arith in sym (need-no _ _ _ _ (lt-leb _ _ g))
+  trailer_6 h = let g : length l < S.m = omega arith in sym (need_no _ _ _ _ (lt-leb _ _ g))
 
   module _ (h : m ≤ length l) (b : Bool) (e : b ≡ same (take (length l - (length l - m)) (drop (length l - m) l)) code) where
     long : S.m ≤ length l
@@ -34,14 +34,14 @@ module _ (S : Suite) (code l : List ℕ) (m : ℕ) (em : m ≡ S.m) where
 
     pub trailer_7 : b ≡ false → refuse 7 0 ≡ trailer_of S code l
     unfolding trailer_of
-    trailer_7 f = sym (pass _ _ _ _ (le-leb _ _ long) (need-no _ _ _ _ (compared false f)))
+    trailer_7 f = sym (pass _ _ _ _ (le-leb _ _ long) (need_no _ _ _ _ (compared false f)))
 
     module _ (f : b ≡ true) where
-      pub trailer-short : length l - m < 2 → refuse 6 0 ≡ trailer_of S code l
+      pub trailer_short : length l - m < 2 → refuse 6 0 ≡ trailer_of S code l
       unfolding trailer_of
-      trailer-short g =
+      trailer_short g =
           let few : length l < S.m + 2 = omega arith in
-          sym (pass _ _ _ _ (le-leb _ _ long) (pass _ _ _ _ (compared true f) (need-no _ _ _ _ (lt-leb _ _ few))))
+          sym (pass _ _ _ _ (le-leb _ _ long) (pass _ _ _ _ (compared true f) (need_no _ _ _ _ (lt-leb _ _ few))))
 
       module _ (g : 2 ≤ length l - m) where
         enough : S.m + 2 ≤ length l
@@ -55,12 +55,12 @@ module _ (S : Suite) (code l : List ℕ) (m : ℕ) (em : m ≡ S.m) where
         trailer_8 d =
             ap (refuse 8) next
             ∙ sym (pass _ _ _ _ (le-leb _ _ long)
-            (pass _ _ _ _ (compared true f) (pass _ _ _ _ (le-leb _ _ enough) (need-no _ _ _ _ (ne_eqb _ _ (λ x. d (next ∙ x)))))))
+            (pass _ _ _ _ (compared true f) (pass _ _ _ _ (le-leb _ _ enough) (need_no _ _ _ _ (ne_eqb _ _ (λ x. d (next ∙ x)))))))
 
-        pub trailer-done : get_or l (length l - m - 1) 0 ≡ 0x07 → (q n : ℕ) → q ≡ get_or l (length l - m - 2) 0 → n ≡ length l - m - 2 - q
+        pub trailer_done : get_or l (length l - m - 1) 0 ≡ 0x07 → (q n : ℕ) → q ≡ get_or l (length l - m - 2) 0 → n ≡ length l - m - 2 - q
             → accept n ≡ trailer_of S code l
         unfolding trailer_of
-        trailer-done d q n hq hn =
+        trailer_done d q n hq hn =
             let count : q ≡ get_or l (coverage S l - 2) 0 = hq ∙ ap (λ (j : ℕ). get_or l (j - 2) 0) cover in
             let left : n ≡ coverage S l - 2 - get_or l (coverage S l - 2) 0 = omega (arith, cover) in
             sym (pass _ _ _ _ (le-leb _ _ long)
@@ -68,27 +68,27 @@ module _ (S : Suite) (code l : List ℕ) (m : ℕ) (em : m ≡ S.m) where
 
 -- with integrity, and without
 module _ (S : Suite) (code l : List ℕ) where
-  pub before-bare : S.auth ≡ false → accept (length l) ≡ before_trailer S code l
+  pub before_bare : S.auth ≡ false → accept (length l) ≡ before_trailer S code l
   unfolding before_trailer
-  before-bare e = sym (cond_false S.auth (trailer_of S code l) (accept (length l)) e)
+  before_bare e = sym (cond_false S.auth (trailer_of S code l) (accept (length l)) e)
 
-  pub before-auth : S.auth ≡ true → (r : Res ℕ) → r ≡ trailer_of S code l → r ≡ before_trailer S code l
+  pub before_auth : S.auth ≡ true → (r : Res ℕ) → r ≡ trailer_of S code l → r ≡ before_trailer S code l
   unfolding before_trailer
-  before-auth e r f = f ∙ sym (cond_true S.auth (trailer_of S code l) (accept (length l)) e)
+  before_auth e r f = f ∙ sym (cond_true S.auth (trailer_of S code l) (accept (length l)) e)
 
   -- what is left is no more than there is
-  trailer-left : (n : ℕ) → trailer_of S code l ≡ accept n → n ≤ length l
+  trailer_left : (n : ℕ) → trailer_of S code l ≡ accept n → n ≤ length l
   unfolding trailer_of
-  trailer-left n e =
+  trailer_left n e =
       let t1 = need_inv _ _ _ _ e in
       let t2 = need_inv _ _ _ _ t1.1 in
       let t3 = need_inv _ _ _ _ t2.1 in
       let t4 = need_inv _ _ _ _ t3.1 in
       omega (arith, accept_inj _ _ t4.1)
 
-  pub before-left : (n : ℕ) → before_trailer S code l ≡ accept n → n ≤ length l
+  pub before_left : (n : ℕ) → before_trailer S code l ≡ accept n → n ≤ length l
   unfolding before_trailer
-  before-left n e =
+  before_left n e =
       by_cases S.auth
-      (λ g. trailer-left n (sym (cond_true S.auth (trailer_of S code l) (accept (length l)) g) ∙ e))
+      (λ g. trailer_left n (sym (cond_true S.auth (trailer_of S code l) (accept (length l)) g) ∙ e))
       (λ g. omega (arith, accept_inj _ _ (sym (cond_false S.auth (trailer_of S code l) (accept (length l)) g) ∙ e)))

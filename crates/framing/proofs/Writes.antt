@@ -11,7 +11,7 @@ use Rattle.refusal.specs.Order.{Res, refuse, accept}
 use Rattle.refusal.proofs.Order.{need_inv, then_refuse, then_accept, accept_inj}
 use Rattle.octets.specs.Place.{pasted, begun}
 use Rattle.octets.specs.Promise.{PutPromise}
-use Rattle.octets.proofs.Place.{put-done, begun_first, begun-put, begun-take, begun-drop, length-pasted}
+use Rattle.octets.proofs.Place.{put_done, begun_first, begun_put, begun_take, begun_drop, length-pasted}
 use Rattle.framing.specs.Suite.{Suite, Lengths}
 use Rattle.framing.specs.Packet.{Message, Filling, plain_of, body_of, header_of, framed, covered}
 use Rattle.framing.specs.Write.{least_p, least_q, body_size, trailer_size, packet_size, longest_payload, room_of, our_filling, our_body, our_pads, ours}
@@ -19,39 +19,39 @@ use Rattle.framing.specs.Write.{write_after, wrote_by}
 use Rattle.framing.specs.Outer.{outer}
 use Rattle.framing.specs.Told.{counted}
 use Rattle.octets.proofs.Order.{cond_true, cond_false}
-use Rattle.framing.proofs.Body.{counted-no, counted-yes}
-use Rattle.framing.proofs.Complete.{build-auth, build-bare, length-framed}
-use Rattle.framing.proofs.RoundTrip.{size-body, size-ours}
+use Rattle.framing.proofs.Body.{counted_no, counted_yes}
+use Rattle.framing.proofs.Complete.{build_auth, build_bare, length-framed}
+use Rattle.framing.proofs.RoundTrip.{size_body, size_ours}
 use Rattle.octets.proofs.Place.{to_end}
-use Rattle.framing.proofs.Fills.{pasted-next}
+use Rattle.framing.proofs.Fills.{pasted_next}
 
 -- sizes
-pub longest-small : (b : Bool) → longest_payload b ≤ 65535
-longest-small true = omega arith
-longest-small false = omega arith
+pub longest_small : (b : Bool) → longest_payload b ≤ 65535
+longest_small true = omega arith
+longest_small false = omega arith
 
-pub body-fits : (b : Bool) (n : ℕ) → n ≤ longest_payload b → body_size b n ≤ 65535
-body-fits true n h = omega arith
-body-fits false n h = h
+pub body_fits : (b : Bool) (n : ℕ) → n ≤ longest_payload b → body_size b n ≤ 65535
+body_fits true n h = omega arith
+body_fits false n h = h
 
-pub packet-body : (S : Suite) (n : ℕ) → 12 + body_size S.aes n ≤ packet_size S n
-packet-body S n = omega arith
+pub packet_body : (S : Suite) (n : ℕ) → 12 + body_size S.aes n ≤ packet_size S n
+packet_body S n = omega arith
 
-pub packet-code : (S : Suite) (n : ℕ) → S.auth ≡ true → 12 + body_size S.aes n + least_q (12 + body_size S.aes n) + 2 + S.m ≡ packet_size S n
-packet-code S n e =
+pub packet_code : (S : Suite) (n : ℕ) → S.auth ≡ true → 12 + body_size S.aes n + least_q (12 + body_size S.aes n) + 2 + S.m ≡ packet_size S n
+packet_code S n e =
     let k : ℕ = 12 + body_size S.aes n in
     let sum : k + least_q k + 2 + S.m ≡ k + (least_q k + 2 + S.m) = omega arith in
     sum ∙ ap (λ (b : Bool). k + trailer_size b S.m k) (sym e)
 
 -- the body
 module _ (S : Suite) (d x payload iv : List ℕ) where
-  pub body-bare : (r : Bool) → S.aes ≡ false → 12 + length payload ≤ length d → PutPromise d 12 payload r x → x ≡ pasted d 12 (our_body S payload iv)
+  pub body_bare : (r : Bool) → S.aes ≡ false → 12 + length payload ≤ length d → PutPromise d 12 payload r x → x ≡ pasted d 12 (our_body S payload iv)
   unfolding our_body
-  body-bare r e h p = put-done d 12 payload r x p h ∙ ap (pasted d 12) (sym (cond_false S.aes _ payload e))
+  body_bare r e h p = put_done d 12 payload r x p h ∙ ap (pasted d 12) (sym (cond_false S.aes _ payload e))
 
-  pub body-aes : S.aes ≡ true → x ≡ pasted d 12 (iv ++ S.enc iv (plain_of payload (least_p (length payload)))) → x ≡ pasted d 12 (our_body S payload iv)
+  pub body_aes : S.aes ≡ true → x ≡ pasted d 12 (iv ++ S.enc iv (plain_of payload (least_p (length payload)))) → x ≡ pasted d 12 (our_body S payload iv)
   unfolding our_body
-  body-aes e f = f ∙ ap (pasted d 12) (sym (cond_true S.aes _ payload e))
+  body_aes e f = f ∙ ap (pasted d 12) (sym (cond_true S.aes _ payload e))
 
 -- the trailer
 take_pasted_end : (d s : List ℕ) (a n : ℕ) → a + length s ≡ n → a ≤ length d → take n (pasted d a s) ≡ take a d ++ s
@@ -65,8 +65,8 @@ module _ (S : Suite) (d d1 d2 code : List ℕ) (k q m : ℕ) (r : Bool) (hq : q 
     (long : m ≤ length code)
     (e1 : d1 ≡ pasted d k (replicate q 0xFF ++ (q ∷ 0x07 ∷ []))) (ec : take S.m code ≡ S.mac (take (k + q + 2) d1))
     (e2 : PutPromise d1 (k + q + 2) (take m code) r d2) where
-  pub code-written : d2 ≡ pasted d k (our_pads k ++ S.mac (take k d ++ our_pads k))
-  code-written =
+  pub code_written : d2 ≡ pasted d k (our_pads k ++ S.mac (take k d ++ our_pads k))
+  code_written =
       let P : List ℕ = our_pads k in
       let pads : replicate q 0xFF ++ (q ∷ 0x07 ∷ []) ≡ P = ap (λ (j : ℕ). replicate j 0xFF ++ (j ∷ 0x07 ∷ [])) hq in
       let size : length P ≡ q + 2
@@ -77,9 +77,9 @@ module _ (S : Suite) (d d1 d2 code : List ℕ) (k q m : ℕ) (r : Bool) (hq : q 
       let codes : take m code ≡ S.mac (take k d ++ P)
       = ap (λ (j : ℕ). take j code) hm ∙ ec ∙ ap S.mac (ap (take (k + q + 2)) first ∙ take_pasted_end d P k (k + q + 2) n (omega arith)) in
       let sizec : length (take m code) ≡ m = length-take-le m code long in
-      put-done d1 (k + q + 2) (take m code) r d2 e2 (omega arith)
+      put_done d1 (k + q + 2) (take m code) r d2 e2 (omega arith)
       ∙ ap₂ (λ (x y : List ℕ). pasted x (k + q + 2) y) first codes
-      ∙ pasted-next d P _ k (k + q + 2) n (omega arith)
+      ∙ pasted_next d P _ k (k + q + 2) n (omega arith)
 
 -- the whole packet
 module _ (S : Suite) (L : Lengths S) (M : Message) (iv : List ℕ) (hi : length iv ≡ 16) (d d1 d2 h : List ℕ) (n : ℕ) (r : Bool)
@@ -94,41 +94,41 @@ module _ (S : Suite) (L : Lengths S) (M : Message) (iv : List ℕ) (hi : length 
 
   size : length (body_of S M F) ≡ n
   unfolding F
-  size = size-body S M iv (λ _. hi) L.enc-length ∙ sym hn
+  size = size_body S M iv (λ _. hi) L.enc_length ∙ sym hn
 
-  length-h : length h ≡ 12
+  length_h : length h ≡ 12
   unfolding header_of
-  length-h = ap length eh
+  length_h = ap length eh
 
-  frame-written : d2 ≡ begun (framed S M F) d
+  frame_written : d2 ≡ begun (framed S M F) d
   unfolding framed
-  frame-written =
-      let first : d1 ≡ pasted d 0 h = put-done d 0 h r d1 e1 (omega (arith, length-h)) in
-      let at : 0 + length h ≡ 12 = omega (arith, length-h) in
+  frame_written =
+      let first : d1 ≡ pasted d 0 h = put_done d 0 h r d1 e1 (omega (arith, length_h)) in
+      let at : 0 + length h ≡ 12 = omega (arith, length_h) in
       e2 ∙ ap₂ (λ (x y : List ℕ). pasted x 12 y) first (sym body_is)
-      ∙ pasted-next d h (body_of S M F) 0 12 at (omega arith)
+      ∙ pasted_next d h (body_of S M F) 0 12 at (omega arith)
       ∙ begun_first (h ++ body_of S M F) d
       ∙ ap (λ (x : List ℕ). begun (x ++ body_of S M F) d) (eh ∙ ap (header_of S M) (sym size))
 
-  pub packet-bare : S.auth ≡ false → d2 ≡ begun (ours S M iv) d
+  pub packet_bare : S.auth ≡ false → d2 ≡ begun (ours S M iv) d
   unfolding ours F
-  packet-bare e = frame-written ∙ ap (λ (x : List ℕ). begun x d) (sym (build-bare S M F e))
+  packet_bare e = frame_written ∙ ap (λ (x : List ℕ). begun x d) (sym (build_bare S M F e))
 
-  pub packet-auth : (d3 : List ℕ) → S.auth ≡ true → d3 ≡ pasted d2 (12 + n) (our_pads (12 + n) ++ S.mac (take (12 + n) d2 ++ our_pads (12 + n)))
+  pub packet_auth : (d3 : List ℕ) → S.auth ≡ true → d3 ≡ pasted d2 (12 + n) (our_pads (12 + n) ++ S.mac (take (12 + n) d2 ++ our_pads (12 + n)))
       → d3 ≡ begun (ours S M iv) d
   unfolding ours covered F
-  packet-auth d3 e f =
+  packet_auth d3 e f =
       let k : length (framed S M F) ≡ 12 + n = length-framed S M F ∙ ap (λ (j : ℕ). 12 + j) size in
       let P : List ℕ = our_pads (12 + n) in
       let pads : F.pads ++ (length F.pads ∷ 0x07 ∷ []) ≡ P
       = ap (λ (j : ℕ). replicate (least_q (12 + j)) 0xFF ++ (length {A = ℕ} (replicate (least_q (12 + j)) 0xFF) ∷ 0x07 ∷ [])) (sym hn)
       ∙ ap (λ (j : ℕ). replicate (least_q (12 + n)) 0xFF ++ (j ∷ 0x07 ∷ [])) (length-replicate {A = ℕ} (least_q (12 + n)) 0xFF) in
-      let front : take (12 + n) d2 ≡ framed S M F = ap (take (12 + n)) frame-written ∙ begun-take (framed S M F) d (12 + n) k in
+      let front : take (12 + n) d2 ≡ framed S M F = ap (take (12 + n)) frame_written ∙ begun_take (framed S M F) d (12 + n) k in
       let cover : framed S M F ++ P ≡ covered S M F = ap (λ (x : List ℕ). framed S M F ++ x) (sym pads) in
-      f ∙ ap₂ (λ (x y : List ℕ). pasted x (12 + n) (P ++ S.mac (y ++ P))) frame-written front
-      ∙ begun-put (framed S M F) d (P ++ S.mac (framed S M F ++ P)) (12 + n) k
+      f ∙ ap₂ (λ (x y : List ℕ). pasted x (12 + n) (P ++ S.mac (y ++ P))) frame_written front
+      ∙ begun_put (framed S M F) d (P ++ S.mac (framed S M F ++ P)) (12 + n) k
       ∙ ap (λ (x : List ℕ). begun x d)
-      (sym (append_assoc (framed S M F) P (S.mac (framed S M F ++ P))) ∙ ap (λ (x : List ℕ). x ++ S.mac x) cover ∙ sym (build-auth S M F e))
+      (sym (append_assoc (framed S M F) P (S.mac (framed S M F ++ P))) ∙ ap (λ (x : List ℕ). x ++ S.mac x) cover ∙ sym (build_auth S M F e))
 
 -- the answers
 pub room_inv : (S : Suite) (before n room k : ℕ) → room_of S before n room ≡ accept k
@@ -145,23 +145,23 @@ module _ (S : Suite) (M : Message) (iv before d : List ℕ) (t : Res ℕ) (e : t
   R = write_after before S M iv (length d)
 
   -- refused: the number, and the output as found
-  pub write-no : (n v : ℕ) → t ≡ refuse n v
+  pub write_no : (n v : ℕ) → t ≡ refuse n v
       → (refuse n v ≡ counted (write_after before S M iv (length d))) × (d ≡ wrote_by (write_after before S M iv (length d)) d)
   unfolding write_after
-  write-no n v f =
+  write_no n v f =
       let none : R ≡ refuse n v = then_refuse (room_of S (length before) (length M.payload) (length d)) _ n v (sym e ∙ f) in
-      (counted-no R n v none, sym (ap (λ (r : Res (List ℕ)). wrote_by r d) none))
+      (counted_no R n v none, sym (ap (λ (r : Res (List ℕ)). wrote_by r d) none))
 
   -- written: the length, and the packet at the output's start
-  pub write-yes : Lengths S → length iv ≡ 16 → (n : ℕ) (x : List ℕ) → t ≡ accept n → x ≡ begun (before ++ ours S M iv) d
+  pub write_yes : Lengths S → length iv ≡ 16 → (n : ℕ) (x : List ℕ) → t ≡ accept n → x ≡ begun (before ++ ours S M iv) d
       → (accept n ≡ counted (write_after before S M iv (length d))) × (x ≡ wrote_by (write_after before S M iv (length d)) d)
   unfolding write_after
-  write-yes L hi n x f b =
+  write_yes L hi n x f b =
       let all : R ≡ accept (before ++ ours S M iv) = then_accept (room_of S (length before) (length M.payload) (length d)) _ n (sym e ∙ f) in
       let size : length (before ++ ours S M iv) ≡ n
-      = length-append before (ours S M iv) ∙ ap (λ (k : ℕ). length before + k) (size-ours S M iv (λ _. hi) L)
+      = length-append before (ours S M iv) ∙ ap (λ (k : ℕ). length before + k) (size_ours S M iv (λ _. hi) L)
       ∙ sym (room_inv S (length before) (length M.payload) (length d) n (sym e ∙ f)).2 in
-      (counted-yes R (before ++ ours S M iv) n all size, b ∙ sym (ap (λ (r : Res (List ℕ)). wrote_by r d) all))
+      (counted_yes R (before ++ ours S M iv) n all size, b ∙ sym (ap (λ (r : Res (List ℕ)). wrote_by r d) all))
 
 -- a header does not depend on the payload but by the body's length
 pub header_same : (S : Suite) (ty id seq : ℕ) (payload : List ℕ) (n : ℕ)
@@ -170,13 +170,13 @@ unfolding header_of
 header_same S ty id seq payload n = refl
 
 -- a packet written behind the four outer bytes
-pub datagram-written : (d d1 y P : List ℕ) (r : Bool) → 4 ≤ length d → PutPromise d 0 outer r d1 → y ≡ begun P (take (length d1 - 4) (drop 4 d1))
+pub datagram_written : (d d1 y P : List ℕ) (r : Bool) → 4 ≤ length d → PutPromise d 0 outer r d1 → y ≡ begun P (take (length d1 - 4) (drop 4 d1))
     → take 4 d1 ++ (y ++ drop (length d1 - 4) (drop 4 d1)) ≡ begun (outer ++ P) d
 unfolding begun
-datagram-written d d1 y P r h p e =
-    let first : d1 ≡ begun outer d = put-done d 0 outer r d1 p h ∙ begun_first outer d in
-    let front : take 4 d1 ≡ outer = ap (take 4) first ∙ begun-take outer d 4 refl in
-    let rest : drop 4 d1 ≡ drop 4 d = ap (drop 4) first ∙ begun-drop outer d 4 refl in
+datagram_written d d1 y P r h p e =
+    let first : d1 ≡ begun outer d = put_done d 0 outer r d1 p h ∙ begun_first outer d in
+    let front : take 4 d1 ≡ outer = ap (take 4) first ∙ begun_take outer d 4 refl in
+    let rest : drop 4 d1 ≡ drop 4 d = ap (drop 4) first ∙ begun_drop outer d 4 refl in
     let over : length (drop 4 d1) ≤ length d1 - 4 = omega (arith, length-drop 4 d1) in
     ap₂ (λ (a b : List ℕ). a ++ b) front
     (ap₂ (λ (a b : List ℕ). a ++ b) (e ∙ ap (begun P) (to_end (length d1) 4 d1 (omega arith) ∙ rest)) (drop_of_length-le (drop 4 d1) over)

@@ -29,9 +29,9 @@ NoMessage Of = ((M : Message) × Of M) → ⊥
 
 -- what the caller of a writer gives: a known type, numbers of four bytes, bytes, and an IV of sixteen
 pub record Given (M : Message) (iv : List ℕ) : Type 0 where
-  pub ty-known : known M.ty ≡ true
-  pub id-fits : M.id < 0x100000000
-  pub seq-fits : M.seq < 0x100000000
-  pub payload-bytes : Bytes M.payload
-  pub iv-size : length iv ≡ 16
-  pub iv-bytes : Bytes iv
+  pub ty_known : known M.ty ≡ true
+  pub id_fits : M.id < 0x100000000
+  pub seq_fits : M.seq < 0x100000000
+  pub payload_bytes : Bytes M.payload
+  pub iv_size : length iv ≡ 16
+  pub iv_bytes : Bytes iv

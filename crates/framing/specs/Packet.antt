@@ -56,14 +56,14 @@ unfoldable pub build : Suite → Message → Filling → List ℕ
 build S M F = cond S.auth (covered S M F ++ S.mac (covered S M F)) (framed S M F)
 
 pub record Legal (S : Suite) (M : Message) (F : Filling) : Type 0 where
-  pub ty-known : known M.ty ≡ true
-  pub id-fits : M.id < 0x100000000
-  pub seq-fits : M.seq < 0x100000000
-  pub payload-bytes : Bytes M.payload
-  pub body-fits : length (body_of S M F) ≤ 65535
-  pub iv-size : S.aes ≡ true → length F.iv ≡ 16
-  pub iv-bytes : S.aes ≡ true → Bytes F.iv
-  pub p-fits : S.aes ≡ true → F.p ≤ 255
+  pub ty_known : known M.ty ≡ true
+  pub id_fits : M.id < 0x100000000
+  pub seq_fits : M.seq < 0x100000000
+  pub payload_bytes : Bytes M.payload
+  pub body_fits : length (body_of S M F) ≤ 65535
+  pub iv_size : S.aes ≡ true → length F.iv ≡ 16
+  pub iv_bytes : S.aes ≡ true → Bytes F.iv
+  pub p_fits : S.aes ≡ true → F.p ≤ 255
   pub whole : S.aes ≡ true → length (plain_of M.payload F.p) % 16 ≡ 0
-  pub pads-few : S.auth ≡ true → length F.pads ≤ 255
-  pub pads-bytes : S.auth ≡ true → Bytes F.pads
+  pub pads_few : S.auth ≡ true → length F.pads ≤ 255
+  pub pads_bytes : S.auth ≡ true → Bytes F.pads

@@ -17,13 +17,13 @@ pub record Suite : Type 0 where
   pub dec : List ℕ → List ℕ → List ℕ
 
 pub record Laws (S : Suite) : Type 0 where
-  pub mac-length : (l : List ℕ) → length (S.mac l) ≡ S.m
-  pub enc-length : (iv l : List ℕ) → length l % 16 ≡ 0 → length (S.enc iv l) ≡ length l
-  pub dec-length : (iv l : List ℕ) → length l % 16 ≡ 0 → length (S.dec iv l) ≡ length l
-  pub dec-bytes : (iv l : List ℕ) → length iv ≡ 16 → Bytes iv → length l % 16 ≡ 0 → Bytes l → Bytes (S.dec iv l)
+  pub mac_length : (l : List ℕ) → length (S.mac l) ≡ S.m
+  pub enc_length : (iv l : List ℕ) → length l % 16 ≡ 0 → length (S.enc iv l) ≡ length l
+  pub dec_length : (iv l : List ℕ) → length l % 16 ≡ 0 → length (S.dec iv l) ≡ length l
+  pub dec_bytes : (iv l : List ℕ) → length iv ≡ 16 → Bytes iv → length l % 16 ≡ 0 → Bytes l → Bytes (S.dec iv l)
   -- each undoes the other
-  pub dec-enc : (iv l : List ℕ) → length iv ≡ 16 → Bytes iv → length l % 16 ≡ 0 → Bytes l → S.dec iv (S.enc iv l) ≡ l
-  pub enc-dec : (iv l : List ℕ) → length iv ≡ 16 → Bytes iv → length l % 16 ≡ 0 → Bytes l → S.enc iv (S.dec iv l) ≡ l
+  pub dec_enc : (iv l : List ℕ) → length iv ≡ 16 → Bytes iv → length l % 16 ≡ 0 → Bytes l → S.dec iv (S.enc iv l) ≡ l
+  pub enc_dec : (iv l : List ℕ) → length iv ≡ 16 → Bytes iv → length l % 16 ≡ 0 → Bytes l → S.enc iv (S.dec iv l) ≡ l
 
 -- all that the size of a body asks of them: where there is encryption, that it keeps the length
 abbrev pub KeepsLength : Suite → Type 0
@@ -31,5 +31,5 @@ KeepsLength S = S.aes ≡ true → (iv l : List ℕ) → length l % 16 ≡ 0 →
 
 -- and the size of a packet: where there is a code, that it has its length
 pub record Lengths (S : Suite) : Type 0 where
-  pub mac-length : S.auth ≡ true → (l : List ℕ) → length (S.mac l) ≡ S.m
-  pub enc-length : KeepsLength S
+  pub mac_length : S.auth ≡ true → (l : List ℕ) → length (S.mac l) ≡ S.m
+  pub enc_length : KeepsLength S

@@ -6,22 +6,22 @@ use lib.ListN.{length}
 use borrow.Author.Tests.{le-leb, lt-leb}
 use Rattle.hmac.specs.Hmac.{inner, outer}
 use Rattle.hmac.specs.Count.{key_count, hmac_count}
-use Rattle.hmac.proofs.Keyed.{inner-length, outer-length}
+use Rattle.hmac.proofs.Keyed.{inner_length, outer_length}
 
 module _ (H : List ℕ → List ℕ) (B : ℕ) (N : List ℕ → ℕ) where
-  pub key_count-short : (k : List ℕ) → length k ≤ B → key_count H B N k ≡ 0
+  pub key_count_short : (k : List ℕ) → length k ≤ B → key_count H B N k ≡ 0
   unfolding key_count
-  key_count-short k l = rw (le-leb (length k) B l)
+  key_count_short k l = rw (le-leb (length k) B l)
 
-  pub key_count-long : (k : List ℕ) → B < length k → key_count H B N k ≡ N k
+  pub key_count_long : (k : List ℕ) → B < length k → key_count H B N k ≡ N k
   unfolding key_count
-  key_count-long k l = rw (lt-leb (length k) B l)
+  key_count_long k l = rw (lt-leb (length k) B l)
 
   -- the key's hash, the inner hash of B + n bytes, the outer hash of B + L bytes
-  pub hmac_count-lengths : (c : ℕ → ℕ) → ((m : List ℕ) → N m ≡ c (length m)) → (L : ℕ) → ((m : List ℕ) → length (H m) ≡ L) → L ≤ B
+  pub hmac_count_lengths : (c : ℕ → ℕ) → ((m : List ℕ) → N m ≡ c (length m)) → (L : ℕ) → ((m : List ℕ) → length (H m) ≡ L) → L ≤ B
       → (k m : List ℕ) → hmac_count H B N k m ≡ key_count H B N k + c (B + length m) + c (B + L)
   unfolding hmac_count
-  hmac_count-lengths c by L sized small k m =
+  hmac_count_lengths c by L sized small k m =
       ap₂ (λ (x y : ℕ). key_count H B N k + x + y)
-      (by (inner H B k m) ∙ ap c (inner-length H B L sized small k m))
-      (by (outer H B k m) ∙ ap c (outer-length H B L sized small k m))
+      (by (inner H B k m) ∙ ap c (inner_length H B L sized small k m))
+      (by (outer H B k m) ∙ ap c (outer_length H B L sized small k m))

@@ -24,26 +24,26 @@ xored-snoc x b [] = refl
 xored-snoc x b (a ∷ l) = ap (λ (t : List ℕ). bit_xor a x ∷ t) (xored-snoc x b l)
 
 module _ (H : List ℕ → List ℕ) (B L : ℕ) (sized : (m : List ℕ) → length (H m) ≡ L) (small : L ≤ B) where
-  short-length : (b : Bool) (k h : List ℕ) → (b ≡ true → length k ≤ B) → length h ≤ B → length (cond b k h) ≤ B
-  short-length true k h f g = f refl
-  short-length false k h f g = g
+  short_length : (b : Bool) (k h : List ℕ) → (b ≡ true → length k ≤ B) → length h ≤ B → length (cond b k h) ≤ B
+  short_length true k h f g = f refl
+  short_length false k h f g = g
 
-  pub key-length : (k : List ℕ) → length (key_block H B k) ≡ B
+  pub key_length : (k : List ℕ) → length (key_block H B k) ≡ B
   unfolding key_block filled
-  key-length k =
-      let s : length (key_of H B k) ≤ B = short-length (leb (length k) B) k (H k) (leb-true (length k) B) (omega (arith, sized k)) in
+  key_length k =
+      let s : length (key_of H B k) ≤ B = short_length (leb (length k) B) k (H k) (leb-true (length k) B) (omega (arith, sized k)) in
       length-append (key_of H B k) (replicate (B - length (key_of H B k)) 0)
       ∙ rw (length-replicate {A = ℕ} (B - length (key_of H B k)) 0) (omega arith)
 
-  pub inner-length : (k m : List ℕ) → length (inner H B k m) ≡ B + length m
+  pub inner_length : (k m : List ℕ) → length (inner H B k m) ≡ B + length m
   unfolding inner
-  inner-length k m = length-append (xored 0x36 (key_block H B k)) m ∙ rw (length-xored 0x36 (key_block H B k), key-length k)
+  inner_length k m = length-append (xored 0x36 (key_block H B k)) m ∙ rw (length-xored 0x36 (key_block H B k), key_length k)
 
-  pub outer-length : (k m : List ℕ) → length (outer H B k m) ≡ B + L
+  pub outer_length : (k m : List ℕ) → length (outer H B k m) ≡ B + L
   unfolding outer
-  outer-length k m =
+  outer_length k m =
       length-append (xored 0x5c (key_block H B k)) (H (inner H B k m))
-      ∙ rw (length-xored 0x5c (key_block H B k), key-length k, sized (inner H B k m))
+      ∙ rw (length-xored 0x5c (key_block H B k), key_length k, sized (inner H B k m))
 
   -- a code has the hash's length
   pub hmac-length : (k m : List ℕ) → length (hmac H B k m) ≡ L
@@ -51,15 +51,15 @@ module _ (H : List ℕ → List ℕ) (B L : ℕ) (sized : (m : List ℕ) → len
   hmac-length k m = sized (outer H B k m)
 
 -- a code is made of bytes where the hash's answers are
-pub hmac-bytes : (H : List ℕ → List ℕ) (B : ℕ) → ((m : List ℕ) → Bytes (H m)) → (k m : List ℕ) → Bytes (hmac H B k m)
+pub hmac_bytes : (H : List ℕ → List ℕ) (B : ℕ) → ((m : List ℕ) → Bytes (H m)) → (k m : List ℕ) → Bytes (hmac H B k m)
 unfolding hmac
-hmac-bytes H B b k m = b (outer H B k m)
+hmac_bytes H B b k m = b (outer H B k m)
 
 -- the key's block, by the key's length
-pub key-short : (H : List ℕ → List ℕ) (B : ℕ) (k : List ℕ) → length k ≤ B → key_block H B k ≡ filled B k
+pub key_short : (H : List ℕ → List ℕ) (B : ℕ) (k : List ℕ) → length k ≤ B → key_block H B k ≡ filled B k
 unfolding key_block
-key-short H B k l = rw (le-leb (length k) B l)
+key_short H B k l = rw (le-leb (length k) B l)
 
-pub key-long : (H : List ℕ → List ℕ) (B : ℕ) (k : List ℕ) → B < length k → key_block H B k ≡ filled B (H k)
+pub key_long : (H : List ℕ → List ℕ) (B : ℕ) (k : List ℕ) → B < length k → key_block H B k ≡ filled B (H k)
 unfolding key_block
-key-long H B k l = rw (lt-leb (length k) B l)
+key_long H B k l = rw (lt-leb (length k) B l)

@@ -5,7 +5,7 @@ use mathlib.Core.List.{List}
 use mathlib.Core.Path.{◌≡◌, refl, ◌∙◌}
 use lib.ListN.{length, replicate, length-append}
 use Rattle.sha1_hmac.specs.Hash.{hmac_blocks}
-use Rattle.sha1_hmac.proofs.Laws.{mac_count-short}
+use Rattle.sha1_hmac.proofs.Laws.{mac_count_short}
 use Rattle.keys.specs.Codes.{text4}
 
 module _ (sik : List ℕ) (h : length sik ≡ 20) where
@@ -13,12 +13,12 @@ module _ (sik : List ℕ) (h : length sik ≡ 20) where
   short = omega arith
 
   -- each of the two keys that a SIK gives
-  pub derived-blocks : (i : ℕ) → hmac_blocks sik (replicate 20 i) ≡ 4
-  derived-blocks i = mac_count-short sik (replicate 20 i) short
+  pub derived_blocks : (i : ℕ) → hmac_blocks sik (replicate 20 i) ≡ 4
+  derived_blocks i = mac_count_short sik (replicate 20 i) short
 
   -- message 4's value
-  pub value-blocks : (rm : List ℕ) (sidc : ℕ) (guid : List ℕ) → length rm ≡ 16 → length guid ≡ 16 → hmac_blocks sik (text4 rm sidc guid) ≡ 4
+  pub value_blocks : (rm : List ℕ) (sidc : ℕ) (guid : List ℕ) → length rm ≡ 16 → length guid ≡ 16 → hmac_blocks sik (text4 rm sidc guid) ≡ 4
   unfolding text4
-  value-blocks rm sidc guid e f =
+  value_blocks rm sidc guid e f =
       let size : length (text4 rm sidc guid) ≡ 36 = simp (length-append, length-append) (omega arith) in
-      mac_count-short sik (text4 rm sidc guid) short ∙ rw size refl
+      mac_count_short sik (text4 rm sidc guid) short ∙ rw size refl

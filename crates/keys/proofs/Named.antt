@@ -28,9 +28,9 @@ role_text l name role len m h e =
     append_assoc l (role ∷ m ∷ []) (take m name)
     ∙ ap₂ (λ (x : ℕ) (y : List ℕ). l ++ (role ∷ x ∷ y)) (f ∙ sym (length-take len name)) (ap (λ (k : ℕ). take k name) f ∙ take_min len name)
 
-pub given-role : {C : Type 0} (H : Hash C) (k l name : List ℕ) (role len m n : ℕ) (st : MacState C) → length name ≡ 16 → m ≡ min len 16
+pub given_role : {C : Type 0} (H : Hash C) (k l name : List ℕ) (role len m n : ℕ) (st : MacState C) → length name ≡ 16 → m ≡ min len 16
     → Given H k ((l ++ (role ∷ m ∷ [])) ++ take m name) (n + 2 + m) st → Given H k (l ++ role_name role (take len name)) (n + (2 + min len 16)) st
-given-role H k l name role len m n st h e g =
+given_role H k l name role len m n st h e g =
     let s : n + 2 + m ≡ n + (2 + min len 16) = omega arith in
     rw (role_text l name role len m h e, s) at g
 
@@ -39,6 +39,6 @@ abbrev pub reads : ℕ → List ℕ → List ℕ
 reads zero d = []
 reads (suc n) d = reads n d ++ (get_or d n 0 ∷ [])
 
-pub reads-take : (n : ℕ) (d : List ℕ) → n ≤ length d → reads n d ≡ take n d
-reads-take zero d h = refl
-reads-take (suc n) d h = ap (λ (l : List ℕ). l ++ (get_or d n 0 ∷ [])) (reads-take n d (omega arith)) ∙ sym (take-suc d n 0 (omega arith))
+pub reads_take : (n : ℕ) (d : List ℕ) → n ≤ length d → reads n d ≡ take n d
+reads_take zero d h = refl
+reads_take (suc n) d h = ap (λ (l : List ℕ). l ++ (get_or d n 0 ∷ [])) (reads_take n d (omega arith)) ∙ sym (take-suc d n 0 (omega arith))

@@ -10,26 +10,26 @@ use Rattle.keys.proofs.state.sik.Reads as sik-reads
 use Rattle.keys.proofs.state.message_3_code.Reads as message-3-code-reads
 use Rattle.keys.proofs.state.message_4_value.Reads as message-4-value-reads
 
-pub from_sik-only : (κs : _) (args : _) (a b : _) (s t : _) → from-sik-reads.Post κs args a s → from-sik-reads.Post κs args b t → a ≡ b
-from_sik-only κs args a b s t p q = p ∙ sym q
+pub from_sik_only : (κs : _) (args : _) (a b : _) (s t : _) → from-sik-reads.Post κs args a s → from-sik-reads.Post κs args b t → a ≡ b
+from_sik_only κs args a b s t p q = p ∙ sym q
 
-pub aes_key-only : (κs : _) (args : _) (a b : _) (s t : _) → aes-key-reads.Post κs args a s → aes-key-reads.Post κs args b t → a ≡ b
-aes_key-only κs args a b s t p q = p ∙ sym q
+pub aes_key_only : (κs : _) (args : _) (a b : _) (s t : _) → aes-key-reads.Post κs args a s → aes-key-reads.Post κs args b t → a ≡ b
+aes_key_only κs args a b s t p q = p ∙ sym q
 
-pub kg-only : (κs : _) (args : _) (a b : _) (s t : _) → kg-reads.Post κs args a s → kg-reads.Post κs args b t → (a.now ≡ b.now) × (a.ref_ptr ≡ b.ref_ptr)
-kg-only κs args a b s t p q = (p.0 ∙ sym q.0, p.1 ∙ sym q.1)
+pub kg_only : (κs : _) (args : _) (a b : _) (s t : _) → kg-reads.Post κs args a s → kg-reads.Post κs args b t → (a.now ≡ b.now) × (a.ref_ptr ≡ b.ref_ptr)
+kg_only κs args a b s t p q = (p.0 ∙ sym q.0, p.1 ∙ sym q.1)
 
-pub message_2_code-only : (κs : _) (args : _) (a b : _) (s t : _)
+pub message_2_code_only : (κs : _) (args : _) (a b : _) (s t : _)
     → message-2-code-reads.Post κs args a s → message-2-code-reads.Post κs args b t → a ≡ b
-message_2_code-only κs args a b s t p q = hashed_one _ _ _ a b p q
+message_2_code_only κs args a b s t p q = hashed_one _ _ _ a b p q
 
-pub sik-only : (κs : _) (args : _) (a b : _) (s t : _) → sik-reads.Post κs args a s → sik-reads.Post κs args b t → a ≡ b
-sik-only κs args a b s t p q = hashed_one _ _ _ a b p q
+pub sik_only : (κs : _) (args : _) (a b : _) (s t : _) → sik-reads.Post κs args a s → sik-reads.Post κs args b t → a ≡ b
+sik_only κs args a b s t p q = hashed_one _ _ _ a b p q
 
-pub message_3_code-only : (κs : _) (args : _) (a b : _) (s t : _)
+pub message_3_code_only : (κs : _) (args : _) (a b : _) (s t : _)
     → message-3-code-reads.Post κs args a s → message-3-code-reads.Post κs args b t → a ≡ b
-message_3_code-only κs args a b s t p q = hashed_one _ _ _ a b p q
+message_3_code_only κs args a b s t p q = hashed_one _ _ _ a b p q
 
-pub message_4_value-only : (κs : _) (args : _) (a b : _) (s t : _)
+pub message_4_value_only : (κs : _) (args : _) (a b : _) (s t : _)
     → message-4-value-reads.Post κs args a s → message-4-value-reads.Post κs args b t → a ≡ b
-message_4_value-only κs args a b s t p q = p ∙ sym q
+message_4_value_only κs args a b s t p q = p ∙ sym q

@@ -7,7 +7,7 @@ use borrow.Author.Tests.{eqb-true}
 use Rattle.refusal.specs.Order.{Res, refuse, accept}
 use Rattle.refusal.specs.Table.{number_of, value_of}
 use Rattle.refusal.specs.declared.Refusal.{Refusal}
-use Rattle.refusal.proofs.Order.{need_inv, then_inv, accept_inj, refuse≢accept, done-no}
+use Rattle.refusal.proofs.Order.{need_inv, then_inv, accept_inj, refuse≢accept, done_no}
 use Rattle.messages.specs.Name.{stored}
 use Rattle.messages.specs.OpenSession.{Response, open_checked, open_response}
 use Rattle.messages.specs.Rakp.{fields2, message2, fields4, message4}
@@ -18,7 +18,7 @@ use Rattle.messages.specs.declared.rakp_1.UsernameAnswer.{UsernameAnswer}
 use Rattle.messages.specs.declared.rakp_2.RakpMessage2.{RakpMessage2}
 use Rattle.messages.specs.declared.rakp_2.RakpAnswer2.{RakpAnswer2}
 use Rattle.messages.specs.declared.rakp_4.RakpMessage4.{RakpMessage4}
-use Rattle.messages.proofs.Reading.{checked-size}
+use Rattle.messages.proofs.Reading.{checked_size}
 
 -- message 2: what passed was accepted, as the message that is handed out
 pub passed_2 : (R : Res RakpMessage2) (r : RakpAnswer2) → ReadPromise2 R r → r.answer ≡ Done → R ≡ accept r.message
@@ -27,30 +27,30 @@ passed_2 (accept m) r p g = ap accept (sym p.message)
 
 pub refused_2 : (R : Res RakpMessage2) (r : RakpAnswer2) (q : Refusal) → ReadPromise2 R r → r.answer ≡ Refused q
     → R ≡ refuse (number_of q) (value_of q)
-refused_2 R r q p g = done-no R _ _ (sym p.answer ∙ ap told g)
+refused_2 R r q p g = done_no R _ _ (sym p.answer ∙ ap told g)
 
 -- a name: what passed was accepted, and is stored
-pub passed-name : (R : Res (List ℕ)) (r : UsernameAnswer) → NamePromise R r → r.answer ≡ Done
+pub passed_name : (R : Res (List ℕ)) (r : UsernameAnswer) → NamePromise R r → r.answer ≡ Done
     → (n : List ℕ) × (R ≡ accept n) × (r.username ≡ stored n)
-passed-name (refuse n v) r p g = absurd (refuse≢accept n v tt (sym p.answer ∙ ap told g))
-passed-name (accept l) r p g = (l, refl, p.name)
+passed_name (refuse n v) r p g = absurd (refuse≢accept n v tt (sym p.answer ∙ ap told g))
+passed_name (accept l) r p g = (l, refl, p.name)
 
-pub refused-name : (R : Res (List ℕ)) (r : UsernameAnswer) (q : Refusal) → NamePromise R r → r.answer ≡ Refused q
+pub refused_name : (R : Res (List ℕ)) (r : UsernameAnswer) (q : Refusal) → NamePromise R r → r.answer ≡ Refused q
     → R ≡ refuse (number_of q) (value_of q)
-refused-name R r q p g = done-no R _ _ (sym p.answer ∙ ap told g)
+refused_name R r q p g = done_no R _ _ (sym p.answer ∙ ap told g)
 
 -- what an accepted message is, and how long at least
 pub found_2 : (m : List ℕ) (f : RakpMessage2) → message2 m ≡ accept f → (f ≡ fields2 m) × (40 ≤ length m)
 unfolding message2
 found_2 m f e =
     let h = then_inv _ _ f e in
-    (sym (accept_inj _ _ h.2), checked-size _ 40 _ _ m h.1)
+    (sym (accept_inj _ _ h.2), checked_size _ 40 _ _ m h.1)
 
 pub found_4 : (m : List ℕ) (f : RakpMessage4) → message4 m ≡ accept f → (f ≡ fields4 m) × (8 ≤ length m)
 unfolding message4
 found_4 m f e =
     let h = then_inv _ _ f e in
-    (sym (accept_inj _ _ h.2), checked-size _ 8 _ _ m h.1)
+    (sym (accept_inj _ _ h.2), checked_size _ 8 _ _ m h.1)
 
 pub found_open : (m : List ℕ) (f : Response) → open_response m ≡ accept f → length m ≡ 36
 unfolding open_response open_checked

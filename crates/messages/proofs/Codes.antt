@@ -32,34 +32,34 @@ confidentiality_at c =
     (confidentiality.None ∷ confidentiality.AesCbc128 ∷ confidentiality.Xrc4_128 ∷ confidentiality.Xrc4_40 ∷ [])
     c confidentiality.None
 
-pub authentication_at-code : (a : AuthenticationAlgorithm) → authentication_at (authentication_code a) ≡ a
-authentication_at-code RakpNone = refl
-authentication_at-code RakpHmacSha1 = refl
-authentication_at-code RakpHmacMd5 = refl
-authentication_at-code RakpHmacSha256 = refl
+pub authentication_at_code : (a : AuthenticationAlgorithm) → authentication_at (authentication_code a) ≡ a
+authentication_at_code RakpNone = refl
+authentication_at_code RakpHmacSha1 = refl
+authentication_at_code RakpHmacMd5 = refl
+authentication_at_code RakpHmacSha256 = refl
 
-pub integrity_at-code : (i : IntegrityAlgorithm) → integrity_at (integrity_code i) ≡ i
-integrity_at-code integrity.None = refl
-integrity_at-code integrity.HmacSha1_96 = refl
-integrity_at-code integrity.HmacMd5_128 = refl
-integrity_at-code integrity.Md5_128 = refl
-integrity_at-code integrity.HmacSha256_128 = refl
+pub integrity_at_code : (i : IntegrityAlgorithm) → integrity_at (integrity_code i) ≡ i
+integrity_at_code integrity.None = refl
+integrity_at_code integrity.HmacSha1_96 = refl
+integrity_at_code integrity.HmacMd5_128 = refl
+integrity_at_code integrity.Md5_128 = refl
+integrity_at_code integrity.HmacSha256_128 = refl
 
-pub confidentiality_at-code : (c : ConfidentialityAlgorithm) → confidentiality_at (confidentiality_code c) ≡ c
-confidentiality_at-code confidentiality.None = refl
-confidentiality_at-code confidentiality.AesCbc128 = refl
-confidentiality_at-code confidentiality.Xrc4_128 = refl
-confidentiality_at-code confidentiality.Xrc4_40 = refl
+pub confidentiality_at_code : (c : ConfidentialityAlgorithm) → confidentiality_at (confidentiality_code c) ≡ c
+confidentiality_at_code confidentiality.None = refl
+confidentiality_at_code confidentiality.AesCbc128 = refl
+confidentiality_at_code confidentiality.Xrc4_128 = refl
+confidentiality_at_code confidentiality.Xrc4_40 = refl
 
 -- the code determines the case
-pub authentication_code-determines : (a b : AuthenticationAlgorithm) → authentication_code a ≡ authentication_code b → a ≡ b
-authentication_code-determines a b e = sym (authentication_at-code a) ∙ ap authentication_at e ∙ authentication_at-code b
+pub authentication_code_determines : (a b : AuthenticationAlgorithm) → authentication_code a ≡ authentication_code b → a ≡ b
+authentication_code_determines a b e = sym (authentication_at_code a) ∙ ap authentication_at e ∙ authentication_at_code b
 
-pub integrity_code-determines : (a b : IntegrityAlgorithm) → integrity_code a ≡ integrity_code b → a ≡ b
-integrity_code-determines a b e = sym (integrity_at-code a) ∙ ap integrity_at e ∙ integrity_at-code b
+pub integrity_code_determines : (a b : IntegrityAlgorithm) → integrity_code a ≡ integrity_code b → a ≡ b
+integrity_code_determines a b e = sym (integrity_at_code a) ∙ ap integrity_at e ∙ integrity_at_code b
 
-pub confidentiality_code-determines : (a b : ConfidentialityAlgorithm) → confidentiality_code a ≡ confidentiality_code b → a ≡ b
-confidentiality_code-determines a b e = sym (confidentiality_at-code a) ∙ ap confidentiality_at e ∙ confidentiality_at-code b
+pub confidentiality_code_determines : (a b : ConfidentialityAlgorithm) → confidentiality_code a ≡ confidentiality_code b → a ≡ b
+confidentiality_code_determines a b e = sym (confidentiality_at_code a) ∙ ap confidentiality_at e ∙ confidentiality_at_code b
 
 -- the payload of a block's numbers
 abbrev pub payload_at : Block → AlgorithmPayload
@@ -68,13 +68,13 @@ payload_at b =
     (Authentication (authentication_at b.code) ∷ Integrity (integrity_at b.code) ∷ Confidentiality (confidentiality_at b.code) ∷ [])
     b.type (Authentication RakpNone)
 
-pub payload_at-numbers : (p : AlgorithmPayload) → payload_at (numbers p) ≡ p
-payload_at-numbers (Authentication a) = ap Authentication (authentication_at-code a)
-payload_at-numbers (Integrity i) = ap Integrity (integrity_at-code i)
-payload_at-numbers (Confidentiality c) = ap Confidentiality (confidentiality_at-code c)
+pub payload_at_numbers : (p : AlgorithmPayload) → payload_at (numbers p) ≡ p
+payload_at_numbers (Authentication a) = ap Authentication (authentication_at_code a)
+payload_at_numbers (Integrity i) = ap Integrity (integrity_at_code i)
+payload_at_numbers (Confidentiality c) = ap Confidentiality (confidentiality_at_code c)
 
-pub payload-one : (p q : AlgorithmPayload) → numbers p ≡ numbers q → p ≡ q
-payload-one p q e = sym (payload_at-numbers p) ∙ ap payload_at e ∙ payload_at-numbers q
+pub payload_one : (p q : AlgorithmPayload) → numbers p ≡ numbers q → p ≡ q
+payload_one p q e = sym (payload_at_numbers p) ∙ ap payload_at e ∙ payload_at_numbers q
 
 abbrev response_at : Response → OpenSessionResponse
 response_at r =
@@ -88,10 +88,10 @@ response_at r =
       confidentiality = confidentiality_at r.confidentiality;
     }
 
-response_at-numbers : (r : OpenSessionResponse) → response_at (response_numbers r) ≡ r
+response_at_numbers : (r : OpenSessionResponse) → response_at (response_numbers r) ≡ r
 unfolding response_numbers
-response_at-numbers r =
-    rw (authentication_at-code r.authentication, integrity_at-code r.integrity, confidentiality_at-code r.confidentiality)
+response_at_numbers r =
+    rw (authentication_at_code r.authentication, integrity_at_code r.integrity, confidentiality_at_code r.confidentiality)
 
-pub response-one : (p q : OpenSessionResponse) → response_numbers p ≡ response_numbers q → p ≡ q
-response-one p q e = sym (response_at-numbers p) ∙ ap response_at e ∙ response_at-numbers q
+pub response_one : (p q : OpenSessionResponse) → response_numbers p ≡ response_numbers q → p ≡ q
+response_one p q e = sym (response_at_numbers p) ∙ ap response_at e ∙ response_at_numbers q

@@ -22,24 +22,24 @@ use Rattle.messages.specs.declared.open_session.BlockAnswer.TheVariants as block
 use Rattle.messages.proofs.Only.{block_one}
 
 -- every code of an algorithm with a name is known
-authentication-known : (a : AuthenticationAlgorithm) → leb (authentication_code a) (last_code 0) ≡ true
-authentication-known RakpNone = refl
-authentication-known RakpHmacSha1 = refl
-authentication-known RakpHmacMd5 = refl
-authentication-known RakpHmacSha256 = refl
+authentication_known : (a : AuthenticationAlgorithm) → leb (authentication_code a) (last_code 0) ≡ true
+authentication_known RakpNone = refl
+authentication_known RakpHmacSha1 = refl
+authentication_known RakpHmacMd5 = refl
+authentication_known RakpHmacSha256 = refl
 
-integrity-known : (i : IntegrityAlgorithm) → leb (integrity_code i) (last_code 1) ≡ true
-integrity-known integrity.None = refl
-integrity-known integrity.HmacSha1_96 = refl
-integrity-known integrity.HmacMd5_128 = refl
-integrity-known integrity.Md5_128 = refl
-integrity-known integrity.HmacSha256_128 = refl
+integrity_known : (i : IntegrityAlgorithm) → leb (integrity_code i) (last_code 1) ≡ true
+integrity_known integrity.None = refl
+integrity_known integrity.HmacSha1_96 = refl
+integrity_known integrity.HmacMd5_128 = refl
+integrity_known integrity.Md5_128 = refl
+integrity_known integrity.HmacSha256_128 = refl
 
-confidentiality-known : (c : ConfidentialityAlgorithm) → leb (confidentiality_code c) (last_code 2) ≡ true
-confidentiality-known confidentiality.None = refl
-confidentiality-known confidentiality.AesCbc128 = refl
-confidentiality-known confidentiality.Xrc4_128 = refl
-confidentiality-known confidentiality.Xrc4_40 = refl
+confidentiality_known : (c : ConfidentialityAlgorithm) → leb (confidentiality_code c) (last_code 2) ≡ true
+confidentiality_known confidentiality.None = refl
+confidentiality_known confidentiality.AesCbc128 = refl
+confidentiality_known confidentiality.Xrc4_128 = refl
+confidentiality_known confidentiality.Xrc4_40 = refl
 
 read_back : (t c : ℕ) → leb t 2 ≡ true → leb c (last_code t) ≡ true
     → block_of (block_bytes t c) ≡ accept (record { type = t; code = c })
@@ -48,9 +48,9 @@ read_back t c h k = pass _ _ _ _ refl (pass _ _ _ _ h (pass _ _ _ _ k refl))
 
 -- of the bytes that are written the reader's definition says what was written
 pub written_read : (p : AlgorithmPayload) → block_of (bytes_of p) ≡ accept (numbers p)
-written_read (Authentication a) = read_back 0 _ refl (authentication-known a)
-written_read (Integrity i) = read_back 1 _ refl (integrity-known i)
-written_read (Confidentiality c) = read_back 2 _ refl (confidentiality-known c)
+written_read (Authentication a) = read_back 0 _ refl (authentication_known a)
+written_read (Integrity i) = read_back 1 _ refl (integrity_known i)
+written_read (Confidentiality c) = read_back 2 _ refl (confidentiality_known c)
 
 -- so the reader's promise on what the writer's promise gives leaves one answer: what was written
 pub round_trip : (p : AlgorithmPayload) (l : List ℕ) (a : BlockAnswer) → l ≡ bytes_of p → told_block a ≡ block_of l → a ≡ block.Block p

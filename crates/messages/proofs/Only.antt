@@ -5,7 +5,7 @@ use mathlib.Core.List.{List}
 use mathlib.Core.Path.{◌≡◌, sym, ◌∙◌, ap, ap₂}
 use Rattle.refusal.specs.Order.{Res}
 use Rattle.refusal.proofs.Order.{refuse≢accept, accept_inj}
-use Rattle.refusal.proofs.Told.{refused-one, outcome-one}
+use Rattle.refusal.proofs.Told.{refused_one, outcome_one}
 use Rattle.messages.specs.Answers.{told_written, told_block, told_open, told4}
 use Rattle.messages.specs.Promises.{WritePromise, NamePromise, ReadPromise2}
 use Rattle.refusal.specs.declared.Outcome.{Outcome}
@@ -21,7 +21,7 @@ use Rattle.messages.specs.declared.rakp_2.RakpMessage2.{RakpMessage2}
 use Rattle.messages.specs.declared.rakp_2.RakpAnswer2.{RakpAnswer2}
 use Rattle.messages.specs.declared.rakp_4.RakpAnswer4.{RakpAnswer4}
 use Rattle.messages.specs.declared.rakp_4.RakpAnswer4.TheVariants as four
-use Rattle.messages.proofs.Codes.{payload-one, response-one}
+use Rattle.messages.proofs.Codes.{payload_one, response_one}
 use Rattle.messages.proofs.auth.AuthenticationAlgorithm.code.Reads as authentication-reads
 use Rattle.messages.proofs.auth.IntegrityAlgorithm.code.Reads as integrity-reads
 use Rattle.messages.proofs.auth.ConfidentialityAlgorithm.code.Reads as confidentiality-reads
@@ -41,97 +41,97 @@ written_one : (a b : Written) → told_written a ≡ told_written b → a ≡ b
 written_one (written.Bytes m) (written.Bytes n) e = ap written.Bytes (accept_inj m n e)
 written_one (written.Bytes m) (written.Refused s) e = absurd (refuse≢accept _ _ _ (sym e))
 written_one (written.Refused r) (written.Bytes n) e = absurd (refuse≢accept _ _ _ e)
-written_one (written.Refused r) (written.Refused s) e = ap written.Refused (refused-one {A = ℕ} r s e)
+written_one (written.Refused r) (written.Refused s) e = ap written.Refused (refused_one {A = ℕ} r s e)
 
 pub block_one : (a b : BlockAnswer) → told_block a ≡ told_block b → a ≡ b
-block_one (block.Block p) (block.Block q) e = ap block.Block (payload-one p q (accept_inj _ _ e))
+block_one (block.Block p) (block.Block q) e = ap block.Block (payload_one p q (accept_inj _ _ e))
 block_one (block.Block p) (block.Refused s) e = absurd (refuse≢accept _ _ _ (sym e))
 block_one (block.Refused r) (block.Block q) e = absurd (refuse≢accept _ _ _ e)
-block_one (block.Refused r) (block.Refused s) e = ap block.Refused (refused-one r s e)
+block_one (block.Refused r) (block.Refused s) e = ap block.Refused (refused_one r s e)
 
 opened_one : (a b : OpenSessionAnswer) → told_open a ≡ told_open b → a ≡ b
-opened_one (opened.Response p) (opened.Response q) e = ap opened.Response (response-one p q (accept_inj _ _ e))
+opened_one (opened.Response p) (opened.Response q) e = ap opened.Response (response_one p q (accept_inj _ _ e))
 opened_one (opened.Response p) (opened.Refused s) e = absurd (refuse≢accept _ _ _ (sym e))
 opened_one (opened.Refused r) (opened.Response q) e = absurd (refuse≢accept _ _ _ e)
-opened_one (opened.Refused r) (opened.Refused s) e = ap opened.Refused (refused-one r s e)
+opened_one (opened.Refused r) (opened.Refused s) e = ap opened.Refused (refused_one r s e)
 
-four-one : (a b : RakpAnswer4) → told4 a ≡ told4 b → a ≡ b
-four-one (four.Message p) (four.Message q) e = ap four.Message (accept_inj p q e)
-four-one (four.Message p) (four.Refused s) e = absurd (refuse≢accept _ _ _ (sym e))
-four-one (four.Refused r) (four.Message q) e = absurd (refuse≢accept _ _ _ e)
-four-one (four.Refused r) (four.Refused s) e = ap four.Refused (refused-one r s e)
+four_one : (a b : RakpAnswer4) → told4 a ≡ told4 b → a ≡ b
+four_one (four.Message p) (four.Message q) e = ap four.Message (accept_inj p q e)
+four_one (four.Message p) (four.Refused s) e = absurd (refuse≢accept _ _ _ (sym e))
+four_one (four.Refused r) (four.Message q) e = absurd (refuse≢accept _ _ _ e)
+four_one (four.Refused r) (four.Refused s) e = ap four.Refused (refused_one r s e)
 
-write-one : (bytes out : List ℕ) (a b : Written) (x y : List ℕ) → WritePromise bytes out a x → WritePromise bytes out b y
+write_one : (bytes out : List ℕ) (a b : Written) (x y : List ℕ) → WritePromise bytes out a x → WritePromise bytes out b y
     → (a ≡ b) × (x ≡ y)
-write-one bytes out a b x y p q = (written_one a b (p.answer ∙ sym q.answer), p.buffer ∙ sym q.buffer)
+write_one bytes out a b x y p q = (written_one a b (p.answer ∙ sym q.answer), p.buffer ∙ sym q.buffer)
 
 abbrev named : Outcome → Username → UsernameAnswer
 named t u = record { answer = t; username = u }
 
-name-one : (R : Res (List ℕ)) (a b : UsernameAnswer) → NamePromise R a → NamePromise R b → a ≡ b
-name-one R a b p q =
-    ap₂ named (outcome-one a.answer b.answer (p.answer ∙ sym q.answer)) (p.name ∙ sym q.name)
+name_one : (R : Res (List ℕ)) (a b : UsernameAnswer) → NamePromise R a → NamePromise R b → a ≡ b
+name_one R a b p q =
+    ap₂ named (outcome_one a.answer b.answer (p.answer ∙ sym q.answer)) (p.name ∙ sym q.name)
 
 abbrev answered : Outcome → RakpMessage2 → RakpAnswer2
 answered t m = record { answer = t; message = m }
 
-pub two-one : (R : Res RakpMessage2) (a b : RakpAnswer2) → ReadPromise2 R a → ReadPromise2 R b → a ≡ b
-two-one R a b p q =
-    ap₂ answered (outcome-one a.answer b.answer (p.answer ∙ sym q.answer)) (p.message ∙ sym q.message)
+pub two_one : (R : Res RakpMessage2) (a b : RakpAnswer2) → ReadPromise2 R a → ReadPromise2 R b → a ≡ b
+two_one R a b p q =
+    ap₂ answered (outcome_one a.answer b.answer (p.answer ∙ sym q.answer)) (p.message ∙ sym q.message)
 
 -- the calls
 
-pub authentication_code-only : (κs : _) (args : _) (a b : _) (s t : _)
+pub authentication_code_only : (κs : _) (args : _) (a b : _) (s t : _)
     → authentication-reads.Post κs args a s → authentication-reads.Post κs args b t → a ≡ b
-authentication_code-only κs args a b s t p q = p ∙ sym q
+authentication_code_only κs args a b s t p q = p ∙ sym q
 
-pub integrity_code-only : (κs : _) (args : _) (a b : _) (s t : _)
+pub integrity_code_only : (κs : _) (args : _) (a b : _) (s t : _)
     → integrity-reads.Post κs args a s → integrity-reads.Post κs args b t → a ≡ b
-integrity_code-only κs args a b s t p q = p ∙ sym q
+integrity_code_only κs args a b s t p q = p ∙ sym q
 
-pub confidentiality_code-only : (κs : _) (args : _) (a b : _) (s t : _)
+pub confidentiality_code_only : (κs : _) (args : _) (a b : _) (s t : _)
     → confidentiality-reads.Post κs args a s → confidentiality-reads.Post κs args b t → a ≡ b
-confidentiality_code-only κs args a b s t p q = p ∙ sym q
+confidentiality_code_only κs args a b s t p q = p ∙ sym q
 
-pub is_level-only : (κs : _) (args : _) (a b : _) (s t : _)
+pub is_level_only : (κs : _) (args : _) (a b : _) (s t : _)
     → is-level-reads.Post κs args a s → is-level-reads.Post κs args b t → a ≡ b
-is_level-only κs args a b s t p q = p ∙ sym q
+is_level_only κs args a b s t p q = p ∙ sym q
 
-pub block-write-only : (κs : _) (args : _) (a b : _) (s t : _)
+pub block_write_only : (κs : _) (args : _) (a b : _) (s t : _)
     → block-write-reads.Post κs args a s → block-write-reads.Post κs args b t → a ≡ b
-block-write-only κs args a b s t p q = p ∙ sym q
+block_write_only κs args a b s t p q = p ∙ sym q
 
-pub block-only : (κs : _) (args : _) (a b : _) (s t : _) → block-reads.Post κs args a s → block-reads.Post κs args b t → a ≡ b
-block-only κs args a b s t p q = block_one a b (p ∙ sym q)
+pub block_only : (κs : _) (args : _) (a b : _) (s t : _) → block-reads.Post κs args a s → block-reads.Post κs args b t → a ≡ b
+block_only κs args a b s t p q = block_one a b (p ∙ sym q)
 
-pub request-only : (κs : _) (args : _) (a b : _) (s t : _)
+pub request_only : (κs : _) (args : _) (a b : _) (s t : _)
     → request-reads.Post κs args a s → request-reads.Post κs args b t → (a ≡ b) × (s.1.0.now ≡ t.1.0.now)
-request-only κs args a b s t p q = write-one _ _ a b _ _ p q
+request_only κs args a b s t p q = write_one _ _ a b _ _ p q
 
-pub response-only : (κs : _) (args : _) (a b : _) (s t : _)
+pub response_only : (κs : _) (args : _) (a b : _) (s t : _)
     → response-reads.Post κs args a s → response-reads.Post κs args b t → a ≡ b
-response-only κs args a b s t p q = opened_one a b (p ∙ sym q)
+response_only κs args a b s t p q = opened_one a b (p ∙ sym q)
 
-pub username-only : (κs : _) (args : _) (a b : _) (s t : _)
+pub username_only : (κs : _) (args : _) (a b : _) (s t : _)
     → username-reads.Post κs args a s → username-reads.Post κs args b t → a ≡ b
-username-only κs args a b s t p q = name-one _ a b p q
+username_only κs args a b s t p q = name_one _ a b p q
 
-pub message1-only : (κs : _) (args : _) (a b : _) (s t : _)
+pub message1_only : (κs : _) (args : _) (a b : _) (s t : _)
     → message1-reads.Post κs args a s → message1-reads.Post κs args b t → (a ≡ b) × (s.1.0.now ≡ t.1.0.now)
-message1-only κs args a b s t p q = write-one _ _ a b _ _ p q
+message1_only κs args a b s t p q = write_one _ _ a b _ _ p q
 
-pub message2-only : (κs : _) (args : _) (a b : _) (s t : _)
+pub message2_only : (κs : _) (args : _) (a b : _) (s t : _)
     → message2-reads.Post κs args a s → message2-reads.Post κs args b t → a ≡ b
-message2-only κs args a b s t p q = two-one _ a b p q
+message2_only κs args a b s t p q = two_one _ a b p q
 
-pub message3-only : (κs : _) (args : _) (a b : _) (s t : _)
+pub message3_only : (κs : _) (args : _) (a b : _) (s t : _)
     → message3-reads.Post κs args a s → message3-reads.Post κs args b t → (a ≡ b) × (s.1.1.0.now ≡ t.1.1.0.now)
-message3-only κs args a b s t p q = write-one _ _ a b _ _ p q
+message3_only κs args a b s t p q = write_one _ _ a b _ _ p q
 
-pub declined-only : (κs : _) (args : _) (a b : _) (s t : _)
+pub declined_only : (κs : _) (args : _) (a b : _) (s t : _)
     → declined-reads.Post κs args a s → declined-reads.Post κs args b t → (a ≡ b) × (s.1.0.now ≡ t.1.0.now)
-declined-only κs args a b s t p q = write-one _ _ a b _ _ p q
+declined_only κs args a b s t p q = write_one _ _ a b _ _ p q
 
-pub message4-only : (κs : _) (args : _) (a b : _) (s t : _)
+pub message4_only : (κs : _) (args : _) (a b : _) (s t : _)
     → message4-reads.Post κs args a s → message4-reads.Post κs args b t → a ≡ b
-message4-only κs args a b s t p q = four-one a b (p ∙ sym q)
+message4_only κs args a b s t p q = four_one a b (p ∙ sym q)

@@ -18,16 +18,16 @@ use Rattle.messages.specs.declared.rakp_2.RakpMessage2.{RakpMessage2}
 use Rattle.messages.specs.declared.rakp_4.RakpMessage4.{RakpMessage4}
 
 -- a row of tests that passed, or that gave a refusal
-pub test-passed : (t : Outcome) (R : Res Unit) → told t ≡ R → t ≡ Done → R ≡ accept tt
-test-passed t R e g = sym e ∙ ap told g
+pub test_passed : (t : Outcome) (R : Res Unit) → told t ≡ R → t ≡ Done → R ≡ accept tt
+test_passed t R e g = sym e ∙ ap told g
 
-pub test-refused : (t : Outcome) (R : Res Unit) (r : Refusal) → told t ≡ R → t ≡ Refused r → R ≡ refuse (number_of r) (value_of r)
-test-refused t R r e g = sym e ∙ ap told g
+pub test_refused : (t : Outcome) (R : Res Unit) (r : Refusal) → told t ≡ R → t ≡ Refused r → R ≡ refuse (number_of r) (value_of r)
+test_refused t R r e g = sym e ∙ ap told g
 
 -- what the tests have shown of the length
-pub checked-size : (names : List ℕ) (fixed n v : ℕ) (m : List ℕ) → checked names fixed n v m ≡ accept tt → fixed ≤ length m
+pub checked_size : (names : List ℕ) (fixed n v : ℕ) (m : List ℕ) → checked names fixed n v m ≡ accept tt → fixed ≤ length m
 unfolding checked
-checked-size names fixed n v m e =
+checked_size names fixed n v m e =
     let a = need_inv _ _ _ _ e in
     let b = need_inv _ _ _ _ a.1 in
     let d = need_inv _ _ _ _ b.1 in
@@ -39,21 +39,21 @@ module _ (m : List ℕ) (t : Outcome) where
         → ReadPromise2 (message2 m) (record { answer = Refused r; message = x })
     unfolding message2
     read2_no r x g z =
-        let h : message2 m ≡ refuse (number_of r) (value_of r) = then_refuse _ _ _ _ (test-refused t _ r e g) in
+        let h : message2 m ≡ refuse (number_of r) (value_of r) = then_refuse _ _ _ _ (test_refused t _ r e g) in
         record { answer = sym (ap done h); message = z ∙ sym (ap held2 h) }
 
     pub read2_yes : (x : RakpMessage2) → t ≡ Done → x ≡ fields2 m
         → ReadPromise2 (message2 m) (record { answer = Done; message = x })
     unfolding message2
     read2_yes x g z =
-        let h : message2 m ≡ accept (fields2 m) = then_accept _ _ _ (test-passed t _ e g) in
+        let h : message2 m ≡ accept (fields2 m) = then_accept _ _ _ (test_passed t _ e g) in
         record { answer = sym (ap done h); message = z ∙ sym (ap held2 h) }
 
   module _ (e : told t ≡ checked names4 8 21 0 m) where
     pub read4_no : (r : Refusal) → t ≡ Refused r → refuse (number_of r) (value_of r) ≡ message4 m
     unfolding message4
-    read4_no r g = sym (then_refuse _ _ _ _ (test-refused t _ r e g))
+    read4_no r g = sym (then_refuse _ _ _ _ (test_refused t _ r e g))
 
     pub read4_yes : (x : RakpMessage4) → t ≡ Done → x ≡ fields4 m → accept x ≡ message4 m
     unfolding message4
-    read4_yes x g z = ap accept z ∙ sym (then_accept _ _ _ (test-passed t _ e g))
+    read4_yes x g z = ap accept z ∙ sym (then_accept _ _ _ (test_passed t _ e g))

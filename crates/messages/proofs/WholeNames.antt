@@ -13,11 +13,11 @@ use Rattle.refusal.specs.Call.{Call}
 use Rattle.refusal.specs.Order.{refuse, accept, need}
 use Rattle.refusal.specs.Outcome.{told}
 use Rattle.refusal.specs.declared.Outcome.TheVariants.{Done}
-use Rattle.refusal.proofs.Order.{refuse≢accept, pass, need_inv, need-past, need_own, done-need}
-use Rattle.refusal.proofs.Told.{outcome-one}
+use Rattle.refusal.proofs.Order.{refuse≢accept, pass, need_inv, need_past, need_own, done_need}
+use Rattle.refusal.proofs.Told.{outcome_one}
 use Rattle.messages.specs.Name.{allowed, longest_name, username_of, name_of}
-use Rattle.messages.proofs.Names.{stored-whole, taken-name}
-use Rattle.messages.proofs.Answered.{passed-name}
+use Rattle.messages.proofs.Names.{stored_whole, taken_name}
+use Rattle.messages.proofs.Answered.{passed_name}
 use Rattle.messages.proofs.rakp_1.Username.new.Kinds as username-kinds
 use Rattle.messages.proofs.rakp_1.Username.new.Reads as username-reads
 
@@ -30,7 +30,7 @@ lent_name c = c.args.0.now
 
 -- behind the test of the length there is no 40, and 34 is the bytes' own
 no_40 : (b : Bool) → need {A = Unit {0}} b 34 0 (accept tt) ≡ refuse 40 0 → ⊥
-no_40 b e = refuse≢accept 40 0 tt (sym (need-past b 34 0 (accept tt) (λ z. omega arith) e).1)
+no_40 b e = refuse≢accept 40 0 tt (sym (need_past b 34 0 (accept tt) (λ z. omega arith) e).1)
 
 own_34 : (b : Bool) → (need {A = Unit {0}} b 34 0 (accept tt) ≡ refuse 34 0) ↔ (b ≡ false)
 own_34 b = need_own b 34 0 (accept tt) (λ e. refuse≢accept 34 0 tt (sym e))
@@ -39,36 +39,36 @@ module _ (c : NameCall) where
   -- the two tests, in their order
   pub name_order : told c.answer.answer ≡ need (leb (length (lent_name c)) longest_name) 40 0 (need (allowed (lent_name c)) 34 0 (accept tt))
   unfolding username_of
-  name_order = c.kept.answer ∙ done-need _ _ _ _ ∙ ap (need (leb (length (lent_name c)) longest_name) 40 0) (done-need _ _ _ _)
+  name_order = c.kept.answer ∙ done_need _ _ _ _ ∙ ap (need (leb (length (lent_name c)) longest_name) 40 0) (done_need _ _ _ _)
 
   pub name_too_long : (told c.answer.answer ≡ refuse 40 0) ↔ (longest_name < length (lent_name c))
   name_too_long =
       let own = need_own _ 40 0 _ (no_40 (allowed (lent_name c))) in
       ((λ e. leb-false _ _ (own.0 (sym name_order ∙ e))), (λ h. name_order ∙ own.1 (lt-leb _ _ h)))
 
-  pub name-not-allowed : (told c.answer.answer ≡ refuse 34 0) ↔ ((length (lent_name c) ≤ longest_name) × (allowed (lent_name c) ≡ false))
-  name-not-allowed = (
+  pub name_not_allowed : (told c.answer.answer ≡ refuse 34 0) ↔ ((length (lent_name c) ≤ longest_name) × (allowed (lent_name c) ≡ false))
+  name_not_allowed = (
     (λ e.
-        let p = need-past _ 40 0 _ {m = 34} (λ z. omega arith) (sym name_order ∙ e) in
+        let p = need_past _ 40 0 _ {m = 34} (λ z. omega arith) (sym name_order ∙ e) in
         (leb-true _ _ p.0, (own_34 (allowed (lent_name c))).0 p.1)),
     (λ h. name_order ∙ pass _ _ _ _ (le-leb _ _ h.0) ((own_34 (allowed (lent_name c))).1 h.1)),
   )
 
-  pub name-taken : (c.answer.answer ≡ Done) ↔ ((length (lent_name c) ≤ longest_name) × (allowed (lent_name c) ≡ true))
-  name-taken = (
+  pub name_taken : (c.answer.answer ≡ Done) ↔ ((length (lent_name c) ≤ longest_name) × (allowed (lent_name c) ≡ true))
+  name_taken = (
     (λ e.
         let p = need_inv _ _ _ _ (sym name_order ∙ ap told e) in
         (leb-true _ _ p.0, (need_inv _ _ _ _ p.1).0)),
-    (λ h. outcome-one _ Done (name_order ∙ pass _ _ _ _ (le-leb _ _ h.0) (pass _ _ _ _ h.1 refl))),
+    (λ h. outcome_one _ Done (name_order ∙ pass _ _ _ _ (le-leb _ _ h.0) (pass _ _ _ _ h.1 refl))),
   )
 
   -- a name that was taken is the whole of what was lent
-  pub name-whole : c.answer.answer ≡ Done → name_of c.answer.username ≡ lent_name c
-  name-whole e =
-      let p = passed-name _ _ c.kept e in
-      ap name_of p.2 ∙ stored-whole p.0 ∙ sym (taken-name _ _ p.1).2
+  pub name_whole : c.answer.answer ≡ Done → name_of c.answer.username ≡ lent_name c
+  name_whole e =
+      let p = passed_name _ _ c.kept e in
+      ap name_of p.2 ∙ stored_whole p.0 ∙ sym (taken_name _ _ p.1).2
 
 -- so two names that were taken as one are one
 pub names_apart : (c d : NameCall) → c.answer.answer ≡ Done → d.answer.answer ≡ Done
     → name_of c.answer.username ≡ name_of d.answer.username → lent_name c ≡ lent_name d
-names_apart c d e f u = sym (name-whole c e) ∙ u ∙ name-whole d f
+names_apart c d e f u = sym (name_whole c e) ∙ u ∙ name_whole d f

@@ -8,7 +8,7 @@ use lib.ListN.{length, length-append}
 use borrow.Author.Tests.{le-leb, lt-leb, leb-true, leb-false}
 use Rattle.refusal.specs.Order.{accept}
 use Rattle.refusal.specs.declared.Refusal.TheVariants.{OutputTooShort}
-use Rattle.refusal.proofs.Order.{pass, need-no}
+use Rattle.refusal.proofs.Order.{pass, need_no}
 use Rattle.octets.specs.Place.{begun}
 use Rattle.octets.specs.Promise.{PutPromise}
 use Rattle.octets.proofs.Place.{placed-fits, placed-not, begun_first}
@@ -22,26 +22,26 @@ use Rattle.messages.specs.declared.rakp.Written.{Written}
 use Rattle.messages.specs.declared.rakp.Written.TheVariants.{Bytes, Refused}
 
 module _ (bytes out : List ℕ) where
-  pub write-no : length out < length bytes → WritePromise bytes out (Refused OutputTooShort) out
-  write-no h = record { answer = sym (need-no _ _ _ _ (lt-leb _ _ h)); buffer = sym (placed-not out 0 bytes (omega arith)) }
+  pub write_no : length out < length bytes → WritePromise bytes out (Refused OutputTooShort) out
+  write_no h = record { answer = sym (need_no _ _ _ _ (lt-leb _ _ h)); buffer = sym (placed-not out 0 bytes (omega arith)) }
 
-  pub write-yes : (n : ℕ) (x : List ℕ) → length bytes ≤ length out → n ≡ length bytes → x ≡ begun bytes out
+  pub write_yes : (n : ℕ) (x : List ℕ) → length bytes ≤ length out → n ≡ length bytes → x ≡ begun bytes out
       → WritePromise bytes out (Bytes n) x
-  write-yes n x h e f =
+  write_yes n x h e f =
       record {
         answer = ap accept e ∙ sym (pass _ _ _ _ (le-leb _ _ h) refl);
         buffer = f ∙ sym (begun_first bytes out) ∙ sym (placed-fits out 0 bytes (omega arith));
       }
 
   -- where one put writes the whole message, its answer is the writer's
-  pub one-no : (r : Bool) (x : List ℕ) → PutPromise out 0 bytes r x → r ≡ false → WritePromise bytes out (Refused OutputTooShort) x
-  one-no r x p e =
+  pub one_no : (r : Bool) (x : List ℕ) → PutPromise out 0 bytes r x → r ≡ false → WritePromise bytes out (Refused OutputTooShort) x
+  one_no r x p e =
       let h : length out < length bytes = omega (arith, leb-false (0 + length bytes) (length out) (sym p.answer ∙ e)) in
-      record { answer = sym (need-no _ _ _ _ (lt-leb _ _ h)); buffer = p.buffer }
+      record { answer = sym (need_no _ _ _ _ (lt-leb _ _ h)); buffer = p.buffer }
 
-  pub one-yes : (n : ℕ) (r : Bool) (x : List ℕ) → n ≡ length bytes → PutPromise out 0 bytes r x → r ≡ true
+  pub one_yes : (n : ℕ) (r : Bool) (x : List ℕ) → n ≡ length bytes → PutPromise out 0 bytes r x → r ≡ true
       → WritePromise bytes out (Bytes n) x
-  one-yes n r x f p e =
+  one_yes n r x f p e =
       let h : length bytes ≤ length out = omega (arith, leb-true (0 + length bytes) (length out) (sym p.answer ∙ e)) in
       record { answer = ap accept f ∙ sym (pass _ _ _ _ (le-leb _ _ h) refl); buffer = p.buffer }
 
@@ -52,7 +52,7 @@ module _ (s : RakpMessage1) (k : length s.random ≡ 16) (n : ℕ) (e : n ≡ le
   size1 = simp length-append (omega arith)
 
   pub write1_no : length out < 28 + n → WritePromise (message1 s) out (Refused OutputTooShort) out
-  write1_no h = let g = size1 in write-no (message1 s) out (omega arith)
+  write1_no h = let g = size1 in write_no (message1 s) out (omega arith)
 
   pub write1_yes : (head name x : List ℕ) → 28 + n ≤ length out → head ≡ s.tag ∷ 0 ∷ 0 ∷ 0 ∷ le 4 s.system
       → name ≡ name_of s.username → x ≡ begun (head ++ s.random ++ (s.role ∷ 0 ∷ 0 ∷ n ∷ []) ++ name) out
@@ -60,7 +60,7 @@ module _ (s : RakpMessage1) (k : length s.random ≡ 16) (n : ℕ) (e : n ≡ le
   unfolding message1
   write1_yes head name x h a b f =
       let g = size1 in
-      write-yes (message1 s) out (28 + n) x (omega arith) (sym g) (f ∙ rw (a, b, e))
+      write_yes (message1 s) out (28 + n) x (omega arith) (sym g) (f ∙ rw (a, b, e))
 
 -- what a caller with room enough learns of a writer
 pub wrote : (bytes out : List ℕ) (r : Written) (x : List ℕ) → WritePromise bytes out r x → length bytes ≤ length out

@@ -52,20 +52,20 @@ same-snoc (a ∷ l) (b ∷ m) x y e =
     ap (λ (t : Bool). eqb a b && t) (same-snoc l m x y (omega arith)) ∙ sym (and_assoc (eqb a b) (same l m) (eqb x y))
 
 -- differences that are summed up: zero only where there was none
-or-none : (d z : ℕ) → bit_or d z ≡ 0 → (d ≡ 0) × (z ≡ 0)
-or-none d z e =
+or_none : (d z : ℕ) → bit_or d z ≡ 0 → (d ≡ 0) × (z ≡ 0)
+or_none d z e =
     (omega (arith, or_add_and d z, and_le_l d z, and_le_r d z), omega (arith, or_add_and d z, and_le_l d z, and_le_r d z))
 
-xor-none : (x y : ℕ) → bit_xor x y ≡ 0 → x ≡ y
-xor-none x y e = omega (arith, xor_add_and x y, and_le_l x y, and_le_r x y)
+xor_none : (x y : ℕ) → bit_xor x y ≡ 0 → x ≡ y
+xor_none x y e = omega (arith, xor_add_and x y, and_le_l x y, and_le_r x y)
 
 by_tests : (d x y : ℕ) (s t : Bool) → eqb d 0 ≡ s → eqb x y ≡ t → eqb (bit_or d (bit_xor x y)) 0 ≡ (s && t)
 by_tests d x y true true e f =
     let p : d ≡ 0 = eqb-true d 0 e in
     let q : x ≡ y = eqb-true x y f in
     eq-eqb _ 0 (ap₂ (λ (a b : ℕ). bit_or a (bit_xor x b)) p (sym q) ∙ or_zero_l (bit_xor x x) ∙ xor_self x)
-by_tests d x y true false e f = ne_eqb _ 0 (λ h. eqb-false x y f (xor-none x y (or-none d (bit_xor x y) h).1))
-by_tests d x y false t e f = ne_eqb _ 0 (λ h. eqb-false d 0 e (or-none d (bit_xor x y) h).0)
+by_tests d x y true false e f = ne_eqb _ 0 (λ h. eqb-false x y f (xor_none x y (or_none d (bit_xor x y) h).1))
+by_tests d x y false t e f = ne_eqb _ 0 (λ h. eqb-false d 0 e (or_none d (bit_xor x y) h).0)
 
 pub or-xor : (d x y : ℕ) → eqb (bit_or d (bit_xor x y)) 0 ≡ (eqb d 0 && eqb x y)
 or-xor d x y = by_tests d x y (eqb d 0) (eqb x y) refl refl

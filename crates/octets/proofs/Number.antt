@@ -10,7 +10,7 @@ use Rattle.octets.specs.Bytes.{Bytes}
 use Rattle.octets.specs.Number.{le, unle, be, onto, unbe}
 use Rattle.octets.specs.Place.{part}
 use Rattle.octets.proofs.Order.{lt_or_le}
-use Rattle.octets.proofs.Bytes.{bytes-nil, bytes-cons, bytes-tail, bytes-append}
+use Rattle.octets.proofs.Bytes.{bytes_nil, bytes_cons, bytes_tail, bytes_append}
 
 -- a number that fits into w bytes comes back
 pub unle-le : (w n : ℕ) → n < 256 ^ w → unle (le w n) ≡ n
@@ -26,11 +26,11 @@ le-unle (b ∷ l) h =
     let s : b < 256 = h 0 in
     let e : (b + 256 * unle l) % 256 ≡ b = omega arith in
     let f : (b + 256 * unle l) / 256 ≡ unle l = omega arith in
-    ap₂ ◌∷◌ e (ap (le (length l)) f ∙ le-unle l (bytes-tail b l h))
+    ap₂ ◌∷◌ e (ap (le (length l)) f ∙ le-unle l (bytes_tail b l h))
 
-pub bytes-be : (w n : ℕ) → Bytes (be w n)
-bytes-be zero n = bytes-nil
-bytes-be (suc w) n = bytes-append (be w (n / 256)) _ (bytes-be w (n / 256)) (bytes-cons (n % 256) [] (omega arith) bytes-nil)
+pub bytes_be : (w n : ℕ) → Bytes (be w n)
+bytes_be zero n = bytes_nil
+bytes_be (suc w) n = bytes_append (be w (n / 256)) _ (bytes_be w (n / 256)) (bytes_cons (n % 256) [] (omega arith) bytes_nil)
 
 onto-snoc : (n : ℕ) (l : List ℕ) (b : ℕ) → onto n (l ++ (b ∷ [])) ≡ onto n l * 256 + b
 onto-snoc n [] b = refl
@@ -51,7 +51,7 @@ be-onto w n (b ∷ l) h =
     let f : (n * 256 + b) / 256 ≡ n = omega arith in
     let g : suc (length l) + w ≡ length l + suc w = omega arith in
     ap (λ (k : ℕ). be k (onto (n * 256 + b) l)) g
-    ∙ be-onto (suc w) (n * 256 + b) l (bytes-tail b l h)
+    ∙ be-onto (suc w) (n * 256 + b) l (bytes_tail b l h)
     ∙ ap₂ (λ (x y : ℕ). be w x ++ (y ∷ []) ++ l) f e
     ∙ append_snoc (be w n) b l
 
@@ -70,15 +70,15 @@ sum_past (suc w) l a k h =
     let g : length l ≤ a + (k + 1) = omega arith in
     omega (arith, get_or-eq_default l 0 h, sum_past w l a (k + 1) g)
 
-unle-from : (w : ℕ) (l : List ℕ) (a k : ℕ) → unle (part l (a + k) w) ≡ sum w l a k
-unle-from zero l a k = refl
-unle-from (suc w) l a k =
+unle_from : (w : ℕ) (l : List ℕ) (a k : ℕ) → unle (part l (a + k) w) ≡ sum w l a k
+unle_from zero l a k = refl
+unle_from (suc w) l a k =
     ⊎_elim
     (λ (h : a + k < length l).
     let e : suc (a + k) ≡ a + (k + 1) = omega arith in
     ap (λ (m : List ℕ). unle (take (suc w) m)) (drop-cons l (a + k) 0 h)
     ∙ ap (λ (j : ℕ). get_or l (a + k) 0 + 256 * unle (part l j w)) e
-    ∙ ap (λ (x : ℕ). get_or l (a + k) 0 + 256 * x) (unle-from w l a (k + 1)))
+    ∙ ap (λ (x : ℕ). get_or l (a + k) 0 + 256 * x) (unle_from w l a (k + 1)))
     (λ (h : length l ≤ a + k).
     ap (λ (m : List ℕ). unle (take (suc w) m)) (drop_of_length-le l h)
     ∙ sym (sum_past (suc w) l a k h))
@@ -86,4 +86,4 @@ unle-from (suc w) l a k =
 
 -- a number in a list, read byte by byte
 pub unle-part : (w : ℕ) (l : List ℕ) (a : ℕ) → unle (part l a w) ≡ sum w l a 0
-unle-part w l a = let e : a ≡ a + 0 = omega arith in ap (λ (j : ℕ). unle (part l j w)) e ∙ unle-from w l a 0
+unle-part w l a = let e : a ≡ a + 0 = omega arith in ap (λ (j : ℕ). unle (part l j w)) e ∙ unle_from w l a 0

@@ -15,36 +15,36 @@ use Rattle.octets.proofs.put.Reads as put-reads
 use Rattle.octets.proofs.same.Reads as same-reads
 use Rattle.octets.proofs.block.Reads as block-reads
 
-pub le2-only : (κs : _) (args : _) (a b : _) (s t : _) → le2-reads.Post κs args a s → le2-reads.Post κs args b t → a ≡ b
-le2-only κs args a b s t p q = p ∙ sym q
+pub le2_only : (κs : _) (args : _) (a b : _) (s t : _) → le2-reads.Post κs args a s → le2-reads.Post κs args b t → a ≡ b
+le2_only κs args a b s t p q = p ∙ sym q
 
-pub le4-only : (κs : _) (args : _) (a b : _) (s t : _) → le4-reads.Post κs args a s → le4-reads.Post κs args b t → a ≡ b
-le4-only κs args a b s t p q = p ∙ sym q
+pub le4_only : (κs : _) (args : _) (a b : _) (s t : _) → le4-reads.Post κs args a s → le4-reads.Post κs args b t → a ≡ b
+le4_only κs args a b s t p q = p ∙ sym q
 
-pub be4-only : (κs : _) (args : _) (a b : _) (s t : _) → be4-reads.Post κs args a s → be4-reads.Post κs args b t → a ≡ b
-be4-only κs args a b s t p q = p ∙ sym q
+pub be4_only : (κs : _) (args : _) (a b : _) (s t : _) → be4-reads.Post κs args a s → be4-reads.Post κs args b t → a ≡ b
+be4_only κs args a b s t p q = p ∙ sym q
 
-pub be8-only : (κs : _) (args : _) (a b : _) (s t : _) → be8-reads.Post κs args a s → be8-reads.Post κs args b t → a ≡ b
-be8-only κs args a b s t p q = p ∙ sym q
+pub be8_only : (κs : _) (args : _) (a b : _) (s t : _) → be8-reads.Post κs args a s → be8-reads.Post κs args b t → a ≡ b
+be8_only κs args a b s t p q = p ∙ sym q
 
-pub load_le2-only : (κs : _) (args : _) (a b : _) (s t : _)
+pub load_le2_only : (κs : _) (args : _) (a b : _) (s t : _)
     → load-le2-reads.Post κs args a s → load-le2-reads.Post κs args b t → a ≡ b
-load_le2-only κs args a b s t p q = p ∙ sym q
+load_le2_only κs args a b s t p q = p ∙ sym q
 
-pub load_le4-only : (κs : _) (args : _) (a b : _) (s t : _)
+pub load_le4_only : (κs : _) (args : _) (a b : _) (s t : _)
     → load-le4-reads.Post κs args a s → load-le4-reads.Post κs args b t → a ≡ b
-load_le4-only κs args a b s t p q = p ∙ sym q
+load_le4_only κs args a b s t p q = p ∙ sym q
 
-pub same-only : (κs : _) (args : _) (a b : _) (s t : _) → same-reads.Post κs args a s → same-reads.Post κs args b t → a ≡ b
-same-only κs args a b s t p q = p ∙ sym q
+pub same_only : (κs : _) (args : _) (a b : _) (s t : _) → same-reads.Post κs args a s → same-reads.Post κs args b t → a ≡ b
+same_only κs args a b s t p q = p ∙ sym q
 
-pub block-only : (κs : _) (args : _) (a b : _) (s t : _) → block-reads.Post κs args a s → block-reads.Post κs args b t → a ≡ b
-block-only κs args a b s t p q = p ∙ sym q
+pub block_only : (κs : _) (args : _) (a b : _) (s t : _) → block-reads.Post κs args a s → block-reads.Post κs args b t → a ≡ b
+block_only κs args a b s t p q = p ∙ sym q
 
 promise_only : (d : List ℕ) (n : ℕ) (m : List ℕ) (a b : Bool) (x y : List ℕ)
     → PutPromise d n m a x → PutPromise d n m b y → (a ≡ b) × (x ≡ y)
 promise_only d n m a b x y p q = (p.answer ∙ sym q.answer, p.buffer ∙ sym q.buffer)
 
-pub put-only : (κs : _) (args : _) (a b : _) (s t : _)
+pub put_only : (κs : _) (args : _) (a b : _) (s t : _)
     → put-reads.Post κs args a s → put-reads.Post κs args b t → (a ≡ b) × (s.0.now ≡ t.0.now)
-put-only κs args a b s t p q = promise_only _ _ _ a b _ _ p q
+put_only κs args a b s t p q = promise_only _ _ _ a b _ _ p q

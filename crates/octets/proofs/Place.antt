@@ -27,9 +27,9 @@ unfolding placed
 placed-not d a s h = rw (lt-leb (a + length s) (length d) h)
 
 -- the last piece of a copy is the whole of it
-pub paste-whole : (d : List ℕ) (a : ℕ) (s : List ℕ) → paste d a s (length s) ≡ pasted d a s
+pub paste_whole : (d : List ℕ) (a : ℕ) (s : List ℕ) → paste d a s (length s) ≡ pasted d a s
 unfolding pasted
-paste-whole d a s = rw (take-length, append_assoc)
+paste_whole d a s = rw (take-length, append_assoc)
 
 pub length-pasted : (d : List ℕ) (a : ℕ) (s : List ℕ) → a + length s ≤ length d → length (pasted d a s) ≡ length d
 unfolding pasted
@@ -62,9 +62,9 @@ drop-pasted d a s h =
     ∙ drop_at s _ (length s) refl
 
 -- nothing pasted is nothing changed
-pub pasted-none : (d : List ℕ) (a : ℕ) → pasted d a [] ≡ d
+pub pasted_none : (d : List ℕ) (a : ℕ) → pasted d a [] ≡ d
 unfolding pasted
-pasted-none d a = let e : a + 0 ≡ a = omega arith in ap (λ (k : ℕ). take a d ++ drop k d) e ∙ take-append-drop a d
+pasted_none d a = let e : a + 0 ≡ a = omega arith in ap (λ (k : ℕ). take a d ++ drop k d) e ∙ take-append-drop a d
 
 -- one byte more
 pub pasted-more : (d x : List ℕ) (a n v : ℕ) → length x ≡ n → a + n < length d
@@ -100,9 +100,9 @@ pub drop-set : (l : List ℕ) (i v : ℕ) → i < length l → drop i (set l i v
 drop-set l i v h = ap (drop i) (set_split l i v h) ∙ drop_at (take i l) _ i (length-take-le i l (omega arith))
 
 -- nothing put is nothing changed
-pub begun-none : (d : List ℕ) → begun [] d ≡ d
+pub begun_none : (d : List ℕ) → begun [] d ≡ d
 unfolding begun
-begun-none d = refl
+begun_none d = refl
 
 -- the first put
 pub begun_first : (x d : List ℕ) → pasted d 0 x ≡ begun x d
@@ -110,9 +110,9 @@ unfolding pasted begun
 begun_first x d = let e : 0 + length x ≡ length x = omega arith in ap (λ (k : ℕ). x ++ drop k d) e
 
 -- the next put, where the last one ended
-pub begun-put : (x d s : List ℕ) (a : ℕ) → length x ≡ a → pasted (begun x d) a s ≡ begun (x ++ s) d
+pub begun_put : (x d s : List ℕ) (a : ℕ) → length x ≡ a → pasted (begun x d) a s ≡ begun (x ++ s) d
 unfolding pasted begun
-begun-put x d s a e =
+begun_put x d s a e =
     let r : List ℕ = drop (length x) d in
     let n : length x + length s ≡ length (x ++ s) = sym (length-append x s) in
     ap₂ (λ (p q : List ℕ). p ++ (s ++ q))
@@ -124,36 +124,36 @@ begun-put x d s a e =
     ∙ sym (append_assoc x s _)
 
 -- what was put so far
-pub begun-take : (x d : List ℕ) (k : ℕ) → length x ≡ k → take k (begun x d) ≡ x
+pub begun_take : (x d : List ℕ) (k : ℕ) → length x ≡ k → take k (begun x d) ≡ x
 unfolding begun
-begun-take x d k e = take_at x _ k e
+begun_take x d k e = take_at x _ k e
 
 -- what was not reached
-pub begun-drop : (x d : List ℕ) (k : ℕ) → length x ≡ k → drop k (begun x d) ≡ drop k d
+pub begun_drop : (x d : List ℕ) (k : ℕ) → length x ≡ k → drop k (begun x d) ≡ drop k d
 unfolding begun
-begun-drop x d k e = drop_at x _ k e ∙ ap (λ (j : ℕ). drop j d) e
+begun_drop x d k e = drop_at x _ k e ∙ ap (λ (j : ℕ). drop j d) e
 
-pub length-begun : (x d : List ℕ) → length x ≤ length d → length (begun x d) ≡ length d
+pub length_begun : (x d : List ℕ) → length x ≤ length d → length (begun x d) ≡ length d
 unfolding begun
-length-begun x d h = simp (length-append, length-drop) (omega arith)
+length_begun x d h = simp (length-append, length-drop) (omega arith)
 
 -- one turn of a copy
-pub copy-turn : (x d s : List ℕ) (a i : ℕ) → x ≡ paste d a s i → a + i < length d → i < length s
+pub copy_turn : (x d s : List ℕ) (a i : ℕ) → x ≡ paste d a s i → a + i < length d → i < length s
     → set x (a + i) (get_or s i 0) ≡ paste d a s (i + 1)
-copy-turn x d s a i e h g = rw (e, add-one) (paste-suc d a s i 0 h g)
+copy_turn x d s a i e h g = rw (e, add-one) (paste-suc d a s i 0 h g)
 
 -- a put that is refused
-pub put-no : (d : List ℕ) (a : ℕ) (s : List ℕ) → length d < a + length s → PutPromise d a s false d
-put-no d a s h = record { answer = sym (lt-leb (a + length s) (length d) h); buffer = sym (placed-not d a s h) }
+pub put_no : (d : List ℕ) (a : ℕ) (s : List ℕ) → length d < a + length s → PutPromise d a s false d
+put_no d a s h = record { answer = sym (lt-leb (a + length s) (length d) h); buffer = sym (placed-not d a s h) }
 
 -- a put that is done
-pub put-yes : (d : List ℕ) (a : ℕ) (s x : List ℕ) → a + length s ≤ length d → x ≡ pasted d a s → PutPromise d a s true x
-put-yes d a s x h e = record { answer = sym (le-leb (a + length s) (length d) h); buffer = e ∙ sym (placed-fits d a s h) }
+pub put_yes : (d : List ℕ) (a : ℕ) (s x : List ℕ) → a + length s ≤ length d → x ≡ pasted d a s → PutPromise d a s true x
+put_yes d a s x h e = record { answer = sym (le-leb (a + length s) (length d) h); buffer = e ∙ sym (placed-fits d a s h) }
 
 -- what a caller with room enough learns
-pub put-done : (d : List ℕ) (a : ℕ) (s : List ℕ) (r : Bool) (x : List ℕ) → PutPromise d a s r x → a + length s ≤ length d
+pub put_done : (d : List ℕ) (a : ℕ) (s : List ℕ) (r : Bool) (x : List ℕ) → PutPromise d a s r x → a + length s ≤ length d
     → x ≡ pasted d a s
-put-done d a s r x p h = p.buffer ∙ placed-fits d a s h
+put_done d a s r x p h = p.buffer ∙ placed-fits d a s h
 
 -- a promise kept for some bytes is kept for bytes that are equal
 pub put_of : (d : List ℕ) (a : ℕ) (s t : List ℕ) (r : Bool) (x : List ℕ) → s ≡ t → PutPromise d a s r x → PutPromise d a t r x

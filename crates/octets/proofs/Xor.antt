@@ -71,5 +71,5 @@ double_xor x y =
     ∙ ap₂ bit_xor (add-zero (x * 2)) (add-zero (y * 2))
 
 -- the sum of two bytes is a byte
-pub xor-byte : (a b : ℕ) → a < 256 → b < 256 → bit_xor a b < 256
-xor-byte = xor_lt 8
+pub xor_byte : (a b : ℕ) → a < 256 → b < 256 → bit_xor a b < 256
+xor_byte = xor_lt 8

@@ -11,9 +11,9 @@ use Rattle.once.specs.Guard.{guard, record_after}
 
 module _ {A : Type 0} (number : A → ℕ) (a : Arrivals) where
   -- a refusal of reading's stands, and leaves the record
-  pub guard-refuse : (R : Res A) (n v : ℕ) → R ≡ refuse n v → (guard number a R ≡ refuse n v) × (record_after number a R ≡ a)
+  pub guard_refuse : (R : Res A) (n v : ℕ) → R ≡ refuse n v → (guard number a R ≡ refuse n v) × (record_after number a R ≡ a)
   unfolding guard record_after
-  guard-refuse R n v e = (then_refuse R _ n v e, ap (λ (x : Res Arrivals). kept_by x a) (then_refuse R _ n v e))
+  guard_refuse R n v e = (then_refuse R _ n v e, ap (λ (x : Res Arrivals). kept_by x a) (then_refuse R _ n v e))
 
   -- a number that is refused
   pub guard_number : (R : Res A) (x : A) (n v : ℕ) → R ≡ accept x → take_of a (number x) ≡ refuse n v
@@ -25,10 +25,10 @@ module _ {A : Type 0} (number : A → ℕ) (a : Arrivals) where
   )
 
   -- a number that is taken
-  pub guard-taken : (R : Res A) (x : A) (b : Arrivals) → R ≡ accept x → take_of a (number x) ≡ accept b
+  pub guard_taken : (R : Res A) (x : A) (b : Arrivals) → R ≡ accept x → take_of a (number x) ≡ accept b
       → (guard number a R ≡ accept x) × (record_after number a R ≡ b)
   unfolding guard record_after
-  guard-taken R x b e f = (
+  guard_taken R x b e f = (
     then_accept R _ x e ∙ then_accept (take_of a (number x)) _ b f,
     ap (λ (y : Res Arrivals). kept_by y a) (then_accept R _ x e ∙ f),
   )
@@ -41,11 +41,11 @@ module _ {A : Type 0} (number : A → ℕ) (a : Arrivals) where
 
   pub cases : (R : Res A) → Cases R
   cases (refuse n v) = by_reading n v refl
-  cases (accept x) = number-cases (take_of a (number x)) refl
+  cases (accept x) = number_cases (take_of a (number x)) refl
     where
-      number-cases : (T : Res Arrivals) → take_of a (number x) ≡ T → Cases (accept x)
-      number-cases (refuse n v) e = by_number x n v refl e
-      number-cases (accept b) e = taken x b refl e
+      number_cases : (T : Res Arrivals) → take_of a (number x) ≡ T → Cases (accept x)
+      number_cases (refuse n v) e = by_number x n v refl e
+      number_cases (accept b) e = taken x b refl e
 
 -- what is told of a message has its number, so the guard may come before the telling or behind it
 pub guard-shown : (a : Arrivals) (R : Res Message) → guard (λ x. x.seq) a (shown R) ≡ shown (guard (λ M. M.seq) a R)
@@ -54,18 +54,18 @@ guard-shown a R = by (cases (λ M. M.seq) a R)
   where
     by : Cases (λ M. M.seq) a R → guard (λ x. x.seq) a (shown R) ≡ shown (guard (λ M. M.seq) a R)
     by (by_reading n v e) =
-        (guard-refuse (λ x. x.seq) a (shown R) n v (then_refuse R _ n v e)).0 ∙ sym (then_refuse _ _ n v (guard-refuse (λ M. M.seq) a R n v e).0)
+        (guard_refuse (λ x. x.seq) a (shown R) n v (then_refuse R _ n v e)).0 ∙ sym (then_refuse _ _ n v (guard_refuse (λ M. M.seq) a R n v e).0)
     by (by_number M n v e f) =
         (guard_number (λ x. x.seq) a (shown R) _ n v (then_accept R _ M e) f).0 ∙ sym (then_refuse _ _ n v (guard_number (λ M. M.seq) a R M n v e f).0)
     by (taken M b e f) =
-        (guard-taken (λ x. x.seq) a (shown R) _ b (then_accept R _ M e) f).0 ∙ sym (then_accept _ _ M (guard-taken (λ M. M.seq) a R M b e f).0)
+        (guard_taken (λ x. x.seq) a (shown R) _ b (then_accept R _ M e) f).0 ∙ sym (then_accept _ _ M (guard_taken (λ M. M.seq) a R M b e f).0)
 
 pub record_shown : (a : Arrivals) (R : Res Message) → record_after (λ x. x.seq) a (shown R) ≡ record_after (λ M. M.seq) a R
 unfolding shown
 record_shown a R = by (cases (λ M. M.seq) a R)
   where
     by : Cases (λ M. M.seq) a R → record_after (λ x. x.seq) a (shown R) ≡ record_after (λ M. M.seq) a R
-    by (by_reading n v e) = (guard-refuse (λ x. x.seq) a (shown R) n v (then_refuse R _ n v e)).1 ∙ sym (guard-refuse (λ M. M.seq) a R n v e).1
+    by (by_reading n v e) = (guard_refuse (λ x. x.seq) a (shown R) n v (then_refuse R _ n v e)).1 ∙ sym (guard_refuse (λ M. M.seq) a R n v e).1
     by (by_number M n v e f) =
         (guard_number (λ x. x.seq) a (shown R) _ n v (then_accept R _ M e) f).1 ∙ sym (guard_number (λ M. M.seq) a R M n v e f).1
-    by (taken M b e f) = (guard-taken (λ x. x.seq) a (shown R) _ b (then_accept R _ M e) f).1 ∙ sym (guard-taken (λ M. M.seq) a R M b e f).1
+    by (taken M b e f) = (guard_taken (λ x. x.seq) a (shown R) _ b (then_accept R _ M e) f).1 ∙ sym (guard_taken (λ M. M.seq) a R M b e f).1

@@ -21,7 +21,7 @@ use Rattle.arrivals.proofs.Calls.{NewCall, CountCall}
 use Rattle.once.specs.Guard.{guard, record_after}
 use Rattle.once.specs.Promise.{OncePromise}
 use Rattle.once.specs.Exact.{OnceSeen, with_number}
-use Rattle.once.proofs.Guarded.{guard-refuse, guard_number, guard-taken, Cases, by_reading, by_number, taken, cases}
+use Rattle.once.proofs.Guarded.{guard_refuse, guard_number, guard_taken, Cases, by_reading, by_number, taken, cases}
 use Rattle.once.proofs.Calls.{OnceCall, OnceDatagramCall, seen_once, seen_once_datagram}
 
 -- a call of either
@@ -48,9 +48,9 @@ abbrev number_told : Res Shown → List ℕ → List ℕ
 number_told (refuse n v) ns = ns
 number_told (accept x) ns = x.seq ∷ ns
 
-told-number : (x : Reading) (ns : List ℕ) → with_number x ns ≡ number_told (read_told x) ns
-told-number (Accepted t i q n) ns = refl
-told-number (Refused w) ns = refl
+told_number : (x : Reading) (ns : List ℕ) → with_number x ns ≡ number_told (read_told x) ns
+told_number (Accepted t i q n) ns = refl
+told_number (Refused w) ns = refl
 
 -- what one call does, by what reading finds
 record Found (a : Arrivals) (o : OnceSeen) : Type 0 where
@@ -91,21 +91,21 @@ takes-more a o f ns r t = by (cases (λ M. M.seq) a f.R)
         record {
           numbers = t.numbers;
           accepted_is =
-              told-number o.answer.read.answer ns ∙ ap (λ (x : Res Shown). number_told x ns) (f.told ∙ then_refuse G _ n v g)
+              told_number o.answer.read.answer ns ∙ ap (λ (x : Res Shown). number_told x ns) (f.told ∙ then_refuse G _ n v g)
               ∙ t.accepted_is ∙ ap (λ (x : Arrivals). taken_of x t.numbers) e;
           after = t.after ∙ ap (λ (x : Arrivals). after_all x t.numbers) e;
         }
 
     by : Cases (λ M. M.seq) a f.R → Takes a (with_number o.answer.read.answer ns) r
-    by (by_reading n v e) = let g = guard-refuse (λ M. M.seq) a f.R n v e in unchanged n v g.0 g.1
+    by (by_reading n v e) = let g = guard_refuse (λ M. M.seq) a f.R n v e in unchanged n v g.0 g.1
     by (by_number M n v e h) = let g = guard_number (λ M. M.seq) a f.R M n v e h in unchanged n v g.0 g.1
     by (taken M b e h) =
-        let g = guard-taken (λ M. M.seq) a f.R M b e h in
+        let g = guard_taken (λ M. M.seq) a f.R M b e h in
         let k : o.answer.arrivals ≡ b = f.after ∙ g.1 in
         record {
           numbers = M.seq ∷ t.numbers;
           accepted_is =
-              told-number o.answer.read.answer ns ∙ ap (λ (x : Res Shown). number_told x ns) (f.told ∙ then_accept G _ M g.0)
+              told_number o.answer.read.answer ns ∙ ap (λ (x : Res Shown). number_told x ns) (f.told ∙ then_accept G _ M g.0)
               ∙ ap (λ (x : List ℕ). M.seq ∷ x) (t.accepted_is ∙ ap (λ (x : Arrivals). taken_of x t.numbers) k)
               ∙ sym (ap (λ (x : Res Arrivals). with_taken x M.seq (taken_of (kept_by x a) t.numbers)) h);
           after =

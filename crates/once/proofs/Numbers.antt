@@ -83,5 +83,5 @@ module _ (S : Suite) where
   pub read_below : (l : List ℕ) (n v : ℕ) → read_of S l ≡ refuse n v → n < 38
   read_below l n v e = low_number (read_of S l) n v (low_read l) e
 
-  pub datagram-below : (d : List ℕ) (n v : ℕ) → read_datagram_of S d ≡ refuse n v → n < 38
-  datagram-below d n v e = low_number (read_datagram_of S d) n v (low_datagram d) e
+  pub datagram_below : (d : List ℕ) (n v : ℕ) → read_datagram_of S d ≡ refuse n v → n < 38
+  datagram_below d n v e = low_number (read_datagram_of S d) n v (low_datagram d) e

@@ -4,7 +4,7 @@ use mathlib.Core.List.{List}
 use mathlib.Core.Path.{◌≡◌, sym, ◌∙◌}
 use Rattle.refusal.specs.Order.{Res}
 use Rattle.framing.specs.Packet.{Message}
-use Rattle.reader.proofs.Only.{tells-one}
+use Rattle.reader.proofs.Only.{tells_one}
 use Rattle.arrivals.specs.declared.Arrivals.{Arrivals}
 use Rattle.once.specs.Promise.{OncePromise}
 use Rattle.once.specs.declared.ReadOnce.{ReadOnce}
@@ -15,16 +15,16 @@ promise_one : (r : Arrivals) (R : Res Message) (n : ℕ) (left lent : List ℕ) 
     → OncePromise r R n left lent a x → OncePromise r R n left lent b y → (a ≡ b) × (x ≡ y)
 promise_one r R n left lent a b x y p q = (
   λ i. record {
-    read = tells-one _ n a.read b.read p.read.tells q.read.tells i;
+    read = tells_one _ n a.read b.read p.read.tells q.read.tells i;
     arrivals = (p.record_left ∙ sym q.record_left) i;
   },
   p.read.buffer ∙ sym q.read.buffer,
 )
 
-pub read_payload-only : (κs : _) (args : _) (a b : _) (s t : _)
+pub read_payload_only : (κs : _) (args : _) (a b : _) (s t : _)
     → read-payload-reads.Post κs args a s → read-payload-reads.Post κs args b t → (a ≡ b) × (s.1.1.0.now ≡ t.1.1.0.now)
-read_payload-only κs args a b s t p q = promise_one _ _ _ _ _ a b _ _ p.0 q.0
+read_payload_only κs args a b s t p q = promise_one _ _ _ _ _ a b _ _ p.0 q.0
 
-pub read_datagram-only : (κs : _) (args : _) (a b : _) (s t : _)
+pub read_datagram_only : (κs : _) (args : _) (a b : _) (s t : _)
     → read-datagram-reads.Post κs args a s → read-datagram-reads.Post κs args b t → (a ≡ b) × (s.1.1.0.now ≡ t.1.1.0.now)
-read_datagram-only κs args a b s t p q = promise_one _ _ _ _ _ a b _ _ p.0 q.0
+read_datagram_only κs args a b s t p q = promise_one _ _ _ _ _ a b _ _ p.0 q.0

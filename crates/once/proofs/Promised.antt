@@ -8,12 +8,12 @@ use Rattle.refusal.specs.Outcome.{told}
 use Rattle.refusal.specs.Table.{number_of, value_of}
 use Rattle.refusal.specs.declared.Refusal.{Refusal}
 use Rattle.refusal.specs.declared.Outcome.TheVariants.{Done, Refused}
-use Rattle.refusal.proofs.Order.{done-yes, done-no, then_refuse, then_accept}
+use Rattle.refusal.proofs.Order.{done_yes, done_no, then_refuse, then_accept}
 use Rattle.framing.specs.Suite.{Suite}
 use Rattle.framing.specs.Packet.{Message}
 use Rattle.framing.specs.Read.{read_of, openable, opened, left_by, left_of, accepts, blocks_of}
 use Rattle.framing.specs.Told.{shown}
-use Rattle.framing.proofs.InPlace.{left-opened}
+use Rattle.framing.proofs.InPlace.{left_opened}
 use Rattle.suite.specs.declared.PayloadType.{PayloadType}
 use Rattle.reader.specs.Answers.{read_told, Tells}
 use Rattle.reader.specs.declared.Read.{Read}
@@ -25,39 +25,39 @@ use Rattle.arrivals.specs.declared.Taken.{Taken}
 use Rattle.once.specs.Guard.{guard, record_after}
 use Rattle.once.specs.Promise.{NumberPromise, OncePromise}
 use Rattle.once.specs.declared.ReadOnce.{ReadOnce}
-use Rattle.once.proofs.Guarded.{guard-refuse, guard_number, guard-taken, Cases, by_reading, by_number, taken, cases, guard-shown, record_shown}
+use Rattle.once.proofs.Guarded.{guard_refuse, guard_number, guard_taken, Cases, by_reading, by_number, taken, cases, guard-shown, record_shown}
 
 -- the number: not looked at, taken, refused
 module _ (a : Arrivals) (r : Read) where
-  pub number-none : (w : Refusal) → r.answer ≡ reading.Refused w → NumberPromise a r (record { read = r; arrivals = a })
-  number-none w e =
-      let g = guard-refuse (λ x. x.seq) a (read_told r.answer) (number_of w) (value_of w) (ap read_told e) in
+  pub number_none : (w : Refusal) → r.answer ≡ reading.Refused w → NumberPromise a r (record { read = r; arrivals = a })
+  number_none w e =
+      let g = guard_refuse (λ x. x.seq) a (read_told r.answer) (number_of w) (value_of w) (ap read_told e) in
       record { answer = ap read_told e ∙ sym g.0; count = refl; record_left = sym g.1 }
 
   module _ (t : PayloadType) (i q n : ℕ) (e : r.answer ≡ reading.Accepted t i q n) (k : Taken) (p : TakePromise a q k) where
-    pub number-taken : k.outcome ≡ Done → NumberPromise a r (record { read = r; arrivals = k.arrivals })
-    number-taken f =
-        let b = done-yes (take_of a q) (sym p.outcome ∙ ap told f) in
-        let g = guard-taken (λ x. x.seq) a (read_told r.answer) _ b.0 (ap read_told e) b.1 in
+    pub number_taken : k.outcome ≡ Done → NumberPromise a r (record { read = r; arrivals = k.arrivals })
+    number_taken f =
+        let b = done_yes (take_of a q) (sym p.outcome ∙ ap told f) in
+        let g = guard_taken (λ x. x.seq) a (read_told r.answer) _ b.0 (ap read_told e) b.1 in
         record {
           answer = ap read_told e ∙ sym g.0;
           count = refl;
           record_left = p.record_left ∙ ap (λ (x : Res Arrivals). kept_by x a) b.1 ∙ sym g.1;
         }
 
-    pub number-refused : (w : Refusal) → k.outcome ≡ Refused w
+    pub number_refused : (w : Refusal) → k.outcome ≡ Refused w
         → NumberPromise a r (record { read = record { answer = reading.Refused w; blocks = r.blocks }; arrivals = a })
-    number-refused w f =
-        let z = done-no (take_of a q) (number_of w) (value_of w) (sym p.outcome ∙ ap told f) in
+    number_refused w f =
+        let z = done_no (take_of a q) (number_of w) (value_of w) (sym p.outcome ∙ ap told f) in
         let g = guard_number (λ x. x.seq) a (read_told r.answer) _ (number_of w) (value_of w) (ap read_told e) z in
         record { answer = sym g.0; count = refl; record_left = sym g.1 }
 
 -- what was told shows whether it was accepted
 module _ (a : Arrivals) (R : Res Message) where
-  accepted-left : accepts (shown (guard (λ M. M.seq) a R)) ≡ true → (x y : List ℕ)
+  accepted_left : accepts (shown (guard (λ M. M.seq) a R)) ≡ true → (x y : List ℕ)
       → (accepts (shown R) ≡ true) × (left_by (guard (λ M. M.seq) a R) x y ≡ y)
   unfolding shown
-  accepted-left h x y = by (cases (λ M. M.seq) a R)
+  accepted_left h x y = by (cases (λ M. M.seq) a R)
     where
       G : Res Message
       G = guard (λ M. M.seq) a R
@@ -66,13 +66,13 @@ module _ (a : Arrivals) (R : Res Message) where
       refused n v e = absurd (false≢true (sym (ap accepts (then_refuse G _ n v e)) ∙ h))
 
       by : Cases (λ M. M.seq) a R → (accepts (shown R) ≡ true) × (left_by G x y ≡ y)
-      by (by_reading n v e) = refused n v (guard-refuse (λ M. M.seq) a R n v e).0
+      by (by_reading n v e) = refused n v (guard_refuse (λ M. M.seq) a R n v e).0
       by (by_number M n v e f) = refused n v (guard_number (λ M. M.seq) a R M n v e f).0
-      by (taken M b e f) = (ap accepts (then_accept R _ M e), ap (λ (r : Res Message). left_by r x y) (guard-taken (λ M. M.seq) a R M b e f).0)
+      by (taken M b e f) = (ap accepts (then_accept R _ M e), ap (λ (r : Res Message). left_by r x y) (guard_taken (λ M. M.seq) a R M b e f).0)
 
-  refused-left : accepts (shown (guard (λ M. M.seq) a R)) ≡ false → (x y : List ℕ) → left_by (guard (λ M. M.seq) a R) x y ≡ x
+  refused_left : accepts (shown (guard (λ M. M.seq) a R)) ≡ false → (x y : List ℕ) → left_by (guard (λ M. M.seq) a R) x y ≡ x
   unfolding shown
-  refused-left h x y = by (guard (λ M. M.seq) a R) refl
+  refused_left h x y = by (guard (λ M. M.seq) a R) refl
     where
       G : Res Message
       G = guard (λ M. M.seq) a R
@@ -83,27 +83,27 @@ module _ (a : Arrivals) (R : Res Message) where
 
 -- a packet: every check, the number, and the opening of what was taken
 module _ (S : Suite) (l : List ℕ) (r : Read) (t : Tells (read_of S l) (blocks_of S l) r) (a : Arrivals) (o : ReadOnce) (p : NumberPromise a r o) where
-  told-once : read_told o.read.answer ≡ shown (guard (λ M. M.seq) a (read_of S l))
-  told-once = p.answer ∙ ap (guard (λ x. x.seq) a) t.answer ∙ guard-shown a (read_of S l)
+  told_once : read_told o.read.answer ≡ shown (guard (λ M. M.seq) a (read_of S l))
+  told_once = p.answer ∙ ap (guard (λ x. x.seq) a) t.answer ∙ guard-shown a (read_of S l)
 
-  tells-once : Tells (guard (λ M. M.seq) a (read_of S l)) (blocks_of S l) o.read
-  tells-once = record { answer = told-once; count = p.count ∙ t.count }
+  tells_once : Tells (guard (λ M. M.seq) a (read_of S l)) (blocks_of S l) o.read
+  tells_once = record { answer = told_once; count = p.count ∙ t.count }
 
-  kept-once : o.arrivals ≡ record_after (λ M. M.seq) a (read_of S l)
-  kept-once = p.record_left ∙ ap (record_after (λ x. x.seq) a) t.answer ∙ record_shown a (read_of S l)
+  kept_once : o.arrivals ≡ record_after (λ M. M.seq) a (read_of S l)
+  kept_once = p.record_left ∙ ap (record_after (λ x. x.seq) a) t.answer ∙ record_shown a (read_of S l)
 
-  pub once-opened : accepts (read_told o.read.answer) ≡ true → (x : List ℕ) → x ≡ cond (openable l) (opened S l) l
+  pub once_opened : accepts (read_told o.read.answer) ≡ true → (x : List ℕ) → x ≡ cond (openable l) (opened S l) l
       → OncePromise a (read_of S l) (blocks_of S l) (left_of S l) l o x
-  once-opened h x e =
-      let w = accepted-left a (read_of S l) (sym (ap accepts told-once) ∙ h) l (left_of S l) in
+  once_opened h x e =
+      let w = accepted_left a (read_of S l) (sym (ap accepts told_once) ∙ h) l (left_of S l) in
       record {
-        read = record { tells = tells-once; buffer = e ∙ left-opened S l (shown (read_of S l)) refl w.0 ∙ sym w.1 };
-        record_left = kept-once;
+        read = record { tells = tells_once; buffer = e ∙ left_opened S l (shown (read_of S l)) refl w.0 ∙ sym w.1 };
+        record_left = kept_once;
       }
 
-  pub once-refused : accepts (read_told o.read.answer) ≡ false → OncePromise a (read_of S l) (blocks_of S l) (left_of S l) l o l
-  once-refused h =
+  pub once_refused : accepts (read_told o.read.answer) ≡ false → OncePromise a (read_of S l) (blocks_of S l) (left_of S l) l o l
+  once_refused h =
       record {
-        read = record { tells = tells-once; buffer = sym (refused-left a (read_of S l) (sym (ap accepts told-once) ∙ h) l (left_of S l)) };
-        record_left = kept-once;
+        read = record { tells = tells_once; buffer = sym (refused_left a (read_of S l) (sym (ap accepts told_once) ∙ h) l (left_of S l)) };
+        record_left = kept_once;
       }

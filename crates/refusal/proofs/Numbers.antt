@@ -109,8 +109,8 @@ known refusal.TooOld = refl
 known refusal.UsernameTooLong = refl
 
 -- two refusals with the same number and value are equal
-pub told-one : (a b : Refusal) → number_of a ≡ number_of b → value_of a ≡ value_of b → a ≡ b
-told-one a b e f = sym (known a) ∙ ap₂ refusal_of e f ∙ known b
+pub told_one : (a b : Refusal) → number_of a ≡ number_of b → value_of a ≡ value_of b → a ≡ b
+told_one a b e f = sym (known a) ∙ ap₂ refusal_of e f ∙ known b
 
 -- no number is used twice: two refusals with one number are one case of the table, and differ at most in the byte
 pub once : (a b : Refusal) → number_of a ≡ number_of b → a ≡ refusal_of (number_of b) (value_of a)
@@ -121,8 +121,8 @@ pub listed : (v : ℕ) → map number_of (table v) ≡ numbers
 listed v = refl
 
 -- and none is listed twice
-pub listed-once : unrepeated numbers ≡ true
-listed-once = refl
+pub listed_once : unrepeated numbers ≡ true
+listed_once = refl
 
 both : (a b : Bool) → (a && b) ≡ true → (a ≡ true) × (b ≡ true)
 both true b e = (refl, e)
@@ -164,13 +164,13 @@ retired_unused r n h e =
 pub none_26 : (r : Refusal) → number_of r ≡ 26 → ⊥
 none_26 r = retired_unused r 26 refl
 
-first-or : (a b : Bool) → (a || b) ≡ true → a ≡ false → b ≡ true
-first-or true b e f = absurd (false≢true (sym f))
-first-or false b e f = e
+first_or : (a b : Bool) → (a || b) ≡ true → a ≡ false → b ≡ true
+first_or true b e f = absurd (false≢true (sym f))
+first_or false b e f = e
 
 -- where no byte is carried the value is 0
 pub uncarried : (r : Refusal) → carries_of r ≡ false → value_of r ≡ 0
-uncarried r e = eqb-true _ _ (first-or (carries_of r) _ (every (λ x. carries_of x || eqb (value_of x) 0) (λ v. refl) r) e)
+uncarried r e = eqb-true _ _ (first_or (carries_of r) _ (every (λ x. carries_of x || eqb (value_of x) 0) (λ v. refl) r) e)
 
 -- the places in the enum of the cases that carry nothing
 abbrev bare_of : List Refusal → List ℕ
@@ -192,7 +192,7 @@ hits (k ∷ ks) x h = hit k ks x h
 
 -- what the last arm of a match knows, after an arm for each case that carries a byte
 pub rest : (r : Refusal) → OneOf bare (tag_of the_type r) → carries_of r ≡ false
-rest r h = not-true _ (first-or _ _ (every bareness (λ v. refl) r) (ap not (hits bare (tag_of the_type r) h)))
+rest r h = not-true _ (first_or _ _ (every bareness (λ v. refl) r) (ap not (hits bare (tag_of the_type r) h)))
   where
     bareness : Refusal → Bool
     bareness x = not (among (tag_of the_type x) bare) || not (carries_of x)

@@ -25,10 +25,10 @@ module _ {A : Type 0} where
   pass false n v r e h = absurd (false≢true e)
 
   -- a test that fails is the answer
-  pub need-no : (b : Bool) (n v : ℕ) (r : Res A) → b ≡ false → need b n v r ≡ refuse n v
+  pub need_no : (b : Bool) (n v : ℕ) (r : Res A) → b ≡ false → need b n v r ≡ refuse n v
   unfolding need
-  need-no true n v r e = absurd (true≢false e)
-  need-no false n v r e = refl
+  need_no true n v r e = absurd (true≢false e)
+  need_no false n v r e = refl
 
   -- where a chain accepts, its first test passed and the rest accepts
   pub need_inv : (b : Bool) (n v : ℕ) (r : Res A) {a : A} → need b n v r ≡ accept a → (b ≡ true) × (r ≡ accept a)
@@ -37,10 +37,10 @@ module _ {A : Type 0} where
   need_inv false n v r e = absurd (refuse≢accept n v _ e)
 
   -- where a chain refuses by another number than its first test has, that test passed and the rest refuses so
-  pub need-past : (b : Bool) (n v : ℕ) (r : Res A) {m u : ℕ} → (n ≡ m → ⊥) → need b n v r ≡ refuse m u → (b ≡ true) × (r ≡ refuse m u)
+  pub need_past : (b : Bool) (n v : ℕ) (r : Res A) {m u : ℕ} → (n ≡ m → ⊥) → need b n v r ≡ refuse m u → (b ≡ true) × (r ≡ refuse m u)
   unfolding need
-  need-past true n v r d e = (refl, e)
-  need-past false n v r d e = absurd (d cc)
+  need_past true n v r d e = (refl, e)
+  need_past false n v r d e = absurd (d cc)
 
   -- where the rest does not refuse by a test's own number, that refusal is given exactly when the test fails
   pub need_own : (b : Bool) (n v : ℕ) (r : Res A) → (r ≡ refuse n v → ⊥) → (need b n v r ≡ refuse n v) ↔ (b ≡ false)
@@ -79,16 +79,16 @@ refuse_as m u n v e =
     ap₂ refuse f g
 
 -- what is left of a chain of tests is a chain of the same tests
-pub done-need : {A : Type 0} (b : Bool) (n v : ℕ) (r : Res A) → done (need b n v r) ≡ need b n v (done r)
+pub done_need : {A : Type 0} (b : Bool) (n v : ℕ) (r : Res A) → done (need b n v r) ≡ need b n v (done r)
 unfolding need
-done-need true n v r = refl
-done-need false n v r = refl
+done_need true n v r = refl
+done_need false n v r = refl
 
 -- what stands behind an outcome
-pub done-yes : {A : Type 0} (R : Res A) → done R ≡ accept tt → (a : A) × (R ≡ accept a)
-done-yes (refuse n v) e = absurd (refuse≢accept n v tt e)
-done-yes (accept a) e = (a, refl)
+pub done_yes : {A : Type 0} (R : Res A) → done R ≡ accept tt → (a : A) × (R ≡ accept a)
+done_yes (refuse n v) e = absurd (refuse≢accept n v tt e)
+done_yes (accept a) e = (a, refl)
 
-pub done-no : {A : Type 0} (R : Res A) (n v : ℕ) → done R ≡ refuse n v → R ≡ refuse n v
-done-no (refuse m u) n v e = refuse_as m u n v e
-done-no (accept a) n v e = absurd (refuse≢accept n v tt (sym e))
+pub done_no : {A : Type 0} (R : Res A) (n v : ℕ) → done R ≡ refuse n v → R ≡ refuse n v
+done_no (refuse m u) n v e = refuse_as m u n v e
+done_no (accept a) n v e = absurd (refuse≢accept n v tt (sym e))

@@ -7,14 +7,14 @@ use Rattle.refusal.specs.declared.Refusal.{Refusal}
 use Rattle.refusal.specs.declared.Outcome.{Outcome}
 use Rattle.refusal.specs.declared.Outcome.TheVariants.{Done, Refused}
 use Rattle.refusal.proofs.Order.{refuse≢accept}
-use Rattle.refusal.proofs.Numbers.{told-one}
+use Rattle.refusal.proofs.Numbers.{told_one}
 
 -- two refusals told alike are one
-pub refused-one : {A : Type 0} (r q : Refusal) → ◌≡◌ {A = Res A} (refuse (number_of r) (value_of r)) (refuse (number_of q) (value_of q)) → r ≡ q
-refused-one r q e = told-one r q (cc) (cc)
+pub refused_one : {A : Type 0} (r q : Refusal) → ◌≡◌ {A = Res A} (refuse (number_of r) (value_of r)) (refuse (number_of q) (value_of q)) → r ≡ q
+refused_one r q e = told_one r q (cc) (cc)
 
-pub outcome-one : (a b : Outcome) → told a ≡ told b → a ≡ b
-outcome-one Done Done e = refl
-outcome-one Done (Refused r) e = absurd (refuse≢accept (number_of r) (value_of r) tt (sym e))
-outcome-one (Refused r) Done e = absurd (refuse≢accept (number_of r) (value_of r) tt e)
-outcome-one (Refused r) (Refused q) e = ap Refused (refused-one r q e)
+pub outcome_one : (a b : Outcome) → told a ≡ told b → a ≡ b
+outcome_one Done Done e = refl
+outcome_one Done (Refused r) e = absurd (refuse≢accept (number_of r) (value_of r) tt (sym e))
+outcome_one (Refused r) Done e = absurd (refuse≢accept (number_of r) (value_of r) tt e)
+outcome_one (Refused r) (Refused q) e = ap Refused (refused_one r q e)

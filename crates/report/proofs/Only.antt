@@ -4,6 +4,6 @@ use mathlib.Core.Path.{◌≡◌}
 use Rattle.text.proofs.Only.{add_promise_only}
 use Rattle.report.proofs.tell.Reads as tell-reads
 
-pub tell-only : (κs : _) (args : _) (a b : _) (s t : _)
+pub tell_only : (κs : _) (args : _) (a b : _) (s t : _)
     → tell-reads.Post κs args a s → tell-reads.Post κs args b t → (a ≡ b) × (s.1.0.now ≡ t.1.0.now)
-tell-only κs args a b s t p q = add_promise_only _ _ _ a b _ _ p q
+tell_only κs args a b s t p q = add_promise_only _ _ _ a b _ _ p q

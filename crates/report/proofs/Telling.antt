@@ -6,7 +6,7 @@ use mathlib.Core.Path.{◌≡◌, refl, sym, ◌∙◌, ap}
 use lib.ListN.{length}
 use borrow.Author.Tests.{le-leb, lt-leb, lt-ltb, le-ltb}
 use Rattle.refusal.specs.Order.{refuse, need, and_then}
-use Rattle.refusal.proofs.Order.{pass, need-no}
+use Rattle.refusal.proofs.Order.{pass, need_no}
 use Rattle.suite.specs.Session.{suite_of}
 use Rattle.framing.specs.Known.{known}
 use Rattle.framing.specs.Read.{read_of, read_with, head_of, rest_of, payload_behind, before_trailer, body_in, payload_in}
@@ -27,14 +27,14 @@ module _ (l : List ℕ) where
   -- no byte
   pub none : length l ≡ 0 → refuse 1 0 ≡ found l
   unfolding found
-  none e = let h : length l ≤ 0 = omega arith in sym (need-no _ _ _ _ (le-ltb 0 (length l) h))
+  none e = let h : length l ≤ 0 = omega arith in sym (need_no _ _ _ _ (le-ltb 0 (length l) h))
 
   -- too many
   pub long : longest < length l → refuse 15 0 ≡ found l
   unfolding found
   long h =
       let g : 0 < length l = omega arith in
-      sym (pass _ _ _ _ (lt-ltb 0 (length l) g) (need-no _ _ _ _ (lt-leb (length l) longest h)))
+      sym (pass _ _ _ _ (lt-ltb 0 (length l) g) (need_no _ _ _ _ (lt-leb (length l) longest h)))
 
   -- any other number: what the reader finds
   pub within : 0 < length l → length l ≤ longest → shown (read_of plain l) ≡ found l
@@ -59,8 +59,8 @@ unfolding told
 tells l d c r t exit e p = add_of d c (line_of t) (told l) r exit (line_told t ∙ ap line_for e) p
 
 -- the packet that rule 8.1 shows; text's `first_line` has the characters of its line
-pub first-packet :
+pub first_packet :
     told (0x06 ∷ 0x00 ∷ 0x0D ∷ 0x0C ∷ 0x0B ∷ 0x0A ∷ 0x01 ∷ 0x00 ∷ 0x00 ∷ 0x00 ∷ 0x02 ∷ 0x00 ∷ 0xAA ∷ 0xBB ∷ [])
     ≡ packet_line 0 0x0a0b0c0d 1 2
 unfolding told found need and_then shown read_of read_with head_of rest_of payload_behind before_trailer body_in payload_in known
-first-packet = refl
+first_packet = refl

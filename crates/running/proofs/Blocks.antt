@@ -18,20 +18,20 @@ module _ {C : Type 0} (compress : C → List ℕ → C) where
       ∙ ap (runs compress k (runs compress j (compress h (take 64 m)) (drop 64 m))) (drop-drop (j * 64) 64 m ∙ ap (λ (i : ℕ). drop i m) e))
 
   -- what stands behind the blocks that are hashed does not count
-  runs-front : (j : ℕ) (h : C) (m s : List ℕ) → j * 64 ≤ length m → runs compress j h (m ++ s) ≡ runs compress j h m
+  runs_front : (j : ℕ) (h : C) (m s : List ℕ) → j * 64 ≤ length m → runs compress j h (m ++ s) ≡ runs compress j h m
   unfolding runs
-  runs-front zero h m s l = refl
-  runs-front (suc j) h m s l =
+  runs_front zero h m s l = refl
+  runs_front (suc j) h m s l =
       let l₆₄ : 64 ≤ length m = omega arith in
       let lj : j * 64 ≤ length (drop 64 m) = simp length-drop (omega arith) in
       ap₂ (λ (x y : List ℕ). runs compress j (compress h x) y) (take-append-le 64 m s l₆₄) (drop-append-le 64 m s l₆₄)
-      ∙ runs-front j (compress h (take 64 m)) (drop 64 m) s lj
+      ∙ runs_front j (compress h (take 64 m)) (drop 64 m) s lj
 
   -- one block more, where it lies
-  pub runs-next : (at : ℕ) (h v u : C) (s : List ℕ) → at % 64 ≡ 0 → v ≡ runs compress (at / 64) h s
+  pub runs_next : (at : ℕ) (h v u : C) (s : List ℕ) → at % 64 ≡ 0 → v ≡ runs compress (at / 64) h s
       → u ≡ compress v (take (at + 64 - at) (drop at s)) → u ≡ runs compress ((at + 64) / 64) h s
   unfolding runs
-  runs-next at h v u s z e p =
+  runs_next at h v u s z e p =
       let e₁ : at + 64 - at ≡ 64 = omega arith in
       let e₂ : at / 64 * 64 ≡ at = omega arith in
       let e₃ : (at + 64) / 64 ≡ at / 64 + 1 = omega arith in
@@ -44,9 +44,9 @@ module _ {C : Type 0} (compress : C → List ℕ → C) where
   pub runs_on : (h : C) (l b : List ℕ) (q j : ℕ) → q * 64 ≤ length l
       → runs compress j (runs compress q h l) (drop (q * 64) l ++ b) ≡ runs compress (q + j) h (l ++ b)
   runs_on h l b q j m =
-      ap₂ (runs compress j) (sym (runs-front q h l b m)) (sym (drop-append-le (q * 64) l b m)) ∙ sym (runs-add q j h (l ++ b))
+      ap₂ (runs compress j) (sym (runs_front q h l b m)) (sym (drop-append-le (q * 64) l b m)) ∙ sym (runs-add q j h (l ++ b))
 
   -- a block o, then the first block of x
-  pub runs-two : (h : C) (o x : List ℕ) → length o ≡ 64 → runs compress 1 (runs compress 1 h o) x ≡ runs compress 2 h (o ++ x)
-  runs-two h o x e =
-      ap₂ (runs compress 1) (sym (runs-front 1 h o x (omega arith))) (sym (drop_at o x 64 e)) ∙ sym (runs-add 1 1 h (o ++ x))
+  pub runs_two : (h : C) (o x : List ℕ) → length o ≡ 64 → runs compress 1 (runs compress 1 h o) x ≡ runs compress 2 h (o ++ x)
+  runs_two h o x e =
+      ap₂ (runs compress 1) (sym (runs_front 1 h o x (omega arith))) (sym (drop_at o x 64 e)) ∙ sym (runs-add 1 1 h (o ++ x))

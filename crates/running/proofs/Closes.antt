@@ -9,28 +9,28 @@ use Rattle.octets.specs.Number.{be}
 use Rattle.octets.specs.Place.{filled, pasted}
 use Rattle.running.specs.Hash.{Hash, plus, runs, zeros, pad}
 use Rattle.running.specs.Running.{State, room, pending, closing, digest_of, count_of}
-use Rattle.running.proofs.Rooms.{length-room, take-room}
-use Rattle.running.proofs.Blocks.{runs-two}
+use Rattle.running.proofs.Rooms.{length_room, take_room}
+use Rattle.running.proofs.Blocks.{runs_two}
 
 -- the last block, where the bytes that wait leave room for the length
-closing-one : (p : List ℕ) (n : ℕ) → length p ≡ n % 64 → n % 64 < 56
+closing_one : (p : List ℕ) (n : ℕ) → length p ≡ n % 64 → n % 64 < 56
     → p ++ pad n ≡ pasted (room (p ++ (0x80 ∷ []))) 56 (be 8 (n * 8))
 unfolding pad pasted
-closing-one p n e l =
+closing_one p n e l =
     let x : List ℕ = p ++ (0x80 ∷ []) in
     let nx : length x ≡ n % 64 + 1 = length-append p (0x80 ∷ []) ∙ omega arith in
-    let nr : length (room x) ≡ 64 = length-room x (omega arith) in
+    let nr : length (room x) ≡ 64 = length_room x (omega arith) in
     let z : 56 - length x ≡ zeros n = omega arith in
     let d : drop 64 (room x) ≡ [] = ap (λ (i : ℕ). drop i (room x)) (sym nr) ∙ drop-length (room x) in
     let t : take 56 (room x) ≡ x ++ replicate (zeros n) 0 =
-    take-room x 56 (omega arith) (omega arith) ∙ ap (λ (i : ℕ). x ++ replicate {A = ℕ} i 0) z in
+    take_room x 56 (omega arith) (omega arith) ∙ ap (λ (i : ℕ). x ++ replicate {A = ℕ} i 0) z in
     sym (ap₂ (λ (a b : List ℕ). a ++ (be 8 (n * 8) ++ b)) t d ∙ simp append_assoc)
 
 -- the last two, where they do not
-closing-two : (p : List ℕ) (n : ℕ) → length p ≡ n % 64 → 56 ≤ n % 64
+closing_two : (p : List ℕ) (n : ℕ) → length p ≡ n % 64 → 56 ≤ n % 64
     → p ++ pad n ≡ room (p ++ (0x80 ∷ [])) ++ pasted (replicate 64 0) 56 (be 8 (n * 8))
 unfolding pad filled pasted
-closing-two p n e l =
+closing_two p n e l =
     let x : List ℕ = p ++ (0x80 ∷ []) in
     let nx : length x ≡ n % 64 + 1 = length-append p (0x80 ∷ []) ∙ omega arith in
     let z : 64 - length x + 56 ≡ zeros n = omega arith in
@@ -47,31 +47,31 @@ length-pad n =
     omega arith
 
 module _ {C : Type 0} (H : Hash C) where
-  pub close-one : (st : State C) (b l : List ℕ) (h : C) → length st.buf ≡ 64 → st.len % 64 < 56
+  pub close_one : (st : State C) (b l : List ℕ) (h : C) → length st.buf ≡ 64 → st.len % 64 < 56
       → b ≡ room (take (st.len % 64) st.buf ++ (0x80 ∷ [])) → l ≡ pasted b 56 (be 8 (st.len * 8))
       → h ≡ runs H.compress (length l / 64) st.h l
       → (H.code h ≡ digest_of H st) × (plus st.blocks 1 ≡ count_of st)
   unfolding closing digest_of count_of pending
-  close-one st b l h e m eb el eh =
+  close_one st b l h e m eb el eh =
       let p : List ℕ = take (st.len % 64) st.buf in
       let np : length p ≡ st.len % 64 = length-take-le (st.len % 64) st.buf (omega arith) in
-      let f : l ≡ p ++ pad st.len = el ∙ ap (λ (t : List ℕ). pasted t 56 (be 8 (st.len * 8))) eb ∙ sym (closing-one p st.len np m) in
+      let f : l ≡ p ++ pad st.len = el ∙ ap (λ (t : List ℕ). pasted t 56 (be 8 (st.len * 8))) eb ∙ sym (closing_one p st.len np m) in
       let n : length (p ++ pad st.len) / 64 ≡ 1 = rw (length-append p (pad st.len), np, length-pad st.len) (omega arith) in
       (ap H.code (eh ∙ ap (λ (t : List ℕ). runs H.compress (length t / 64) st.h t) f), ap (plus st.blocks) (sym n))
 
-  pub close-two : (st : State C) (b l : List ℕ) (g h : C) → length st.buf ≡ 64 → 56 ≤ st.len % 64
+  pub close_two : (st : State C) (b l : List ℕ) (g h : C) → length st.buf ≡ 64 → 56 ≤ st.len % 64
       → b ≡ room (take (st.len % 64) st.buf ++ (0x80 ∷ [])) → l ≡ pasted (replicate 64 0) 56 (be 8 (st.len * 8))
       → g ≡ runs H.compress (length b / 64) st.h b → h ≡ runs H.compress (length l / 64) g l
       → (H.code h ≡ digest_of H st) × (plus st.blocks 2 ≡ count_of st)
   unfolding closing digest_of count_of pending pasted
-  close-two st b l g h e m eb el eg eh =
+  close_two st b l g h e m eb el eg eh =
       let p : List ℕ = take (st.len % 64) st.buf in
       let np : length p ≡ st.len % 64 = length-take-le (st.len % 64) st.buf (omega arith) in
-      let nb : length b ≡ 64 = ap length eb ∙ length-room (p ++ (0x80 ∷ [])) (rw (length-append p (0x80 ∷ []), np) (omega arith)) in
+      let nb : length b ≡ 64 = ap length eb ∙ length_room (p ++ (0x80 ∷ [])) (rw (length-append p (0x80 ∷ []), np) (omega arith)) in
       let nl : length l ≡ 64 = ap length el in
-      let f : b ++ l ≡ p ++ pad st.len = ap₂ (λ (x y : List ℕ). x ++ y) eb el ∙ sym (closing-two p st.len np m) in
+      let f : b ++ l ≡ p ++ pad st.len = ap₂ (λ (x y : List ℕ). x ++ y) eb el ∙ sym (closing_two p st.len np m) in
       let n : length (p ++ pad st.len) / 64 ≡ 2 = rw (length-append p (pad st.len), np, length-pad st.len) (omega arith) in
-      let k : h ≡ runs H.compress 2 st.h (b ++ l) = eh ∙ rw (nl, eg, nb) (runs-two H.compress st.h b l nb) in
+      let k : h ≡ runs H.compress 2 st.h (b ++ l) = eh ∙ rw (nl, eg, nb) (runs_two H.compress st.h b l nb) in
       let j : runs H.compress 2 st.h (b ++ l) ≡ runs H.compress (length (p ++ pad st.len) / 64) st.h (p ++ pad st.len) =
       ap₂ (λ (i : ℕ) (t : List ℕ). runs H.compress i st.h t) (sym n) f in
       (ap H.code (k ∙ j), ap (plus st.blocks) (sym n))

@@ -13,9 +13,9 @@ use Rattle.running.proofs.Sizes.{block_count-ceiling}
 
 module _ {C : Type 0} (H : Hash C) where
   -- what waits after the bytes of m
-  pending-after : (m : List ℕ) → pending (after H m) ≡ drop (length m / 64 * 64) m
+  pending_after : (m : List ℕ) → pending (after H m) ≡ drop (length m / 64 * 64) m
   unfolding after
-  pending-after m =
+  pending_after m =
       waits H (runs H.compress (length m / 64) H.first m) (drop (length m / 64 * 64) m) (length m) (length m / 64)
       (rw (length-drop (length m / 64 * 64) m) (omega arith))
 
@@ -26,7 +26,7 @@ module _ {C : Type 0} (H : Hash C) where
       let q : ℕ = length m / 64 in
       let p : List ℕ = pad (length m) in
       let r : List ℕ = drop (q * 64) m ++ p in
-      let e : pending (after H m) ++ p ≡ r = ap (λ (x : List ℕ). x ++ p) (pending-after m) in
+      let e : pending (after H m) ++ p ≡ r = ap (λ (x : List ℕ). x ++ p) (pending_after m) in
       let l : q * 64 ≤ length m = omega arith in
       let nr : length r ≡ length m - q * 64 + (9 + zeros (length m)) =
       length-append (drop (q * 64) m) p ∙ rw (length-drop (q * 64) m, length-pad (length m)) in
@@ -38,24 +38,24 @@ module _ {C : Type 0} (H : Hash C) where
       (ap H.code (k ∙ h), ap (λ (x : List ℕ). q + length x / 64) e ∙ n)
 
   -- a message's state gives the hash of the message
-  pub digest-after : (m : List ℕ) → digest_of H (after H m) ≡ digest H m
-  digest-after m = (end_after m).0
+  pub digest_after : (m : List ℕ) → digest_of H (after H m) ≡ digest H m
+  digest_after m = (end_after m).0
 
   -- the running hash after n bytes tells the floor of n / 64
-  pub blocks-after : (m : List ℕ) → (after H m).blocks ≡ length m / 64
+  pub blocks_after : (m : List ℕ) → (after H m).blocks ≡ length m / 64
   unfolding after
-  blocks-after m = refl
+  blocks_after m = refl
 
   -- a sum that does not wrap
   sum_below : (a b n : ℕ) → a + b ≡ n → n < 2 ^ 32 → plus a b ≡ n
   sum_below a b n e l = omega arith
 
   -- and tells the blocks of the padded message
-  pub count-after : (m : List ℕ) → length m < 2 ^ 31 → count_of (after H m) ≡ block_count m
+  pub count_after : (m : List ℕ) → length m < 2 ^ 31 → count_of (after H m) ≡ block_count m
   unfolding count_of
-  count-after m l =
+  count_after m l =
       sum_below (after H m).blocks (length (closing (after H m)) / 64) (block_count m)
-      (ap (λ (x : ℕ). x + length (closing (after H m)) / 64) (blocks-after m) ∙ (end_after m).1) (rw (block_count-ceiling m) (omega arith))
+      (ap (λ (x : ℕ). x + length (closing (after H m)) / 64) (blocks_after m) ∙ (end_after m).1) (rw (block_count-ceiling m) (omega arith))
 
   pub len_after : (m : List ℕ) → (after H m).len ≡ length m
   unfolding after

@@ -13,8 +13,8 @@ use Rattle.hmac.proofs.Nested.{run}
 use Rattle.running.specs.Hash.{Hash, block_count, digest}
 use Rattle.running.specs.Running.{State, taken, digest_of, count_of, after}
 use Rattle.running.specs.Promise.{limit, Answer, FedPromise, EndPromise, HashPromise}
-use Rattle.running.proofs.Takes.{taken-after, after-taken}
-use Rattle.running.proofs.Ends.{digest-after, count-after, blocks-after, len_after}
+use Rattle.running.proofs.Takes.{taken_after, after_taken}
+use Rattle.running.proofs.Ends.{digest_after, count_after, blocks_after, len_after}
 use Rattle.running.proofs.Promised.{yes, no, as_yes}
 
 module _ {C : Type 0} (H : Hash C) where
@@ -29,12 +29,12 @@ module _ {C : Type 0} (H : Hash C) where
         let z = st_len in
         let h : st.len + length s ≤ limit = omega arith in
         let q = yes (rw (le-leb (st.len + length s) limit h) at p) in
-        let w : taken H st s ≡ after H (m ++ s) = ap (λ (x : State C). taken H x s) e ∙ taken-after H m s (omega arith) in
-        (q.0, q.1 ∙ ap f w, q.2 ∙ ap (λ (x : State C). x.blocks) w ∙ blocks-after H (m ++ s) ∙ rw (length-append m s))
+        let w : taken H st s ≡ after H (m ++ s) = ap (λ (x : State C). taken H x s) e ∙ taken_after H m s (omega arith) in
+        (q.0, q.1 ∙ ap f w, q.2 ∙ ap (λ (x : State C). x.blocks) w ∙ blocks_after H (m ++ s) ∙ rw (length-append m s))
 
     -- a piece past the limit leaves the hash as it was and tells 0
-    pub refused-after : limit < length m + length s → (t ≡ refuse 37 0) × (v ≡ f (after H m)) × (k ≡ 0)
-    refused-after l =
+    pub refused_after : limit < length m + length s → (t ≡ refuse 37 0) × (v ≡ f (after H m)) × (k ≡ 0)
+    refused_after l =
         let z = st_len in
         let h : limit < st.len + length s = omega arith in
         let q = no (rw (lt-leb (st.len + length s) limit h) at p) in
@@ -44,12 +44,12 @@ module _ {C : Type 0} (H : Hash C) where
   abbrev pub updated : State C → List ℕ → State C
   updated st s = cond (leb (st.len + length s) limit) (taken H st s) st
 
-  updated-after : (m s : List ℕ) → length m + length s ≤ limit → updated (after H m) s ≡ after H (m ++ s)
-  updated-after m s l = rw (le-leb ((after H m).len + length s) limit (rw (len_after H m) l)) (taken-after H m s (omega arith))
+  updated_after : (m s : List ℕ) → length m + length s ≤ limit → updated (after H m) s ≡ after H (m ++ s)
+  updated_after m s l = rw (le-leb ((after H m).len + length s) limit (rw (len_after H m) l)) (taken_after H m s (omega arith))
 
   -- pieces in any cutting are their joined bytes
   pub pieces : (ps : List (List ℕ)) → length (joined ps) ≤ limit → feeds updated (after H []) ps ≡ after H (joined ps)
-  pieces ps l = run (after H) updated limit updated-after [] ps (omega arith)
+  pieces ps l = run (after H) updated limit updated_after [] ps (omega arith)
 
   module _ {A : Type 0} (f : List ℕ → A) {z v : A} (m : List ℕ) {t : Res Unit} {k : ℕ} where
     -- the end after the bytes of m is the hash of m
@@ -59,12 +59,12 @@ module _ {C : Type 0} (H : Hash C) where
         let w : st.len ≡ length m = ap (λ (x : State C). x.len) e ∙ len_after H m in
         let h : st.len ≤ limit = omega arith in
         as_yes (rw (le-leb st.len limit h) at p) refl (f (digest H m)) z (block_count m)
-        (ap (λ (x : State C). f (digest_of H x)) e ∙ ap f (digest-after H m)) (ap count_of e ∙ count-after H m (omega arith))
+        (ap (λ (x : State C). f (digest_of H x)) e ∙ ap f (digest_after H m)) (ap count_of e ∙ count_after H m (omega arith))
 
     -- all bytes in one call
     pub hashed_whole : {x y : State C} → length m ≤ limit → x ≡ after H [] → y ≡ taken H x m
         → Answer true (f (digest_of H y)) z (count_of y) t v k → HashPromise H f z m t v k
     hashed_whole {x} {y} l e g p =
-        let w : y ≡ after H m = g ∙ ap (λ (u : State C). taken H u m) e ∙ after-taken H m (omega arith) in
+        let w : y ≡ after H m = g ∙ ap (λ (u : State C). taken H u m) e ∙ after_taken H m (omega arith) in
         as_yes p (le-leb (length m) limit l) (f (digest H m)) z (block_count m)
-        (ap (λ (u : State C). f (digest_of H u)) w ∙ ap f (digest-after H m)) (ap count_of w ∙ count-after H m (omega arith))
+        (ap (λ (u : State C). f (digest_of H u)) w ∙ ap f (digest_after H m)) (ap count_of w ∙ count_after H m (omega arith))

@@ -10,39 +10,39 @@ use lib.Dec.{leb}
 use Rattle.octets.specs.Place.{filled}
 use Rattle.hmac.specs.Hmac.{xored, inner, outer}
 use Rattle.hmac.specs.Count.{key_count, hmac_count, ceiling}
-use Rattle.hmac.proofs.Keyed.{length-xored, key-length, key-short, key-long, inner-length, outer-length}
-use Rattle.hmac.proofs.Counted.{key_count-short, key_count-long}
+use Rattle.hmac.proofs.Keyed.{length-xored, key_length, key_short, key_long, inner_length, outer_length}
+use Rattle.hmac.proofs.Counted.{key_count_short, key_count_long}
 use Rattle.hmac.proofs.Nested.{nested}
 use Rattle.running.specs.Hash.{Hash, Sized, plus, runs, pad, padded, block_count, digest}
 use Rattle.running.specs.Running.{State, room, closing, taken, digest_of, count_of, after}
 use Rattle.running.specs.Mac.{MacState, hmac_of, hmac_blocks_of, key_block_of, key_blocks_of, inner_of}
 use Rattle.running.specs.Mac.{mac_after, mac_taken, mac_running, mac_digest, mac_count}
 use Rattle.running.specs.Promise.{limit}
-use Rattle.running.proofs.Blocks.{runs-two}
-use Rattle.running.proofs.Takes.{taken-after, after-taken}
+use Rattle.running.proofs.Blocks.{runs_two}
+use Rattle.running.proofs.Takes.{taken_after, after_taken}
 use Rattle.running.proofs.Sizes.{block_count-ceiling, last_one, digest-length, fits}
-use Rattle.running.proofs.Ends.{digest-after, count-after}
+use Rattle.running.proofs.Ends.{digest_after, count_after}
 
 module _ {C : Type 0} (H : Hash C) (ok : Sized H) where
   -- the key's block and its count, by the key's length
-  pub key_block-short : (k b : List ℕ) → length k ≤ 64 → b ≡ room k → (b ≡ key_block_of H k) × (0 ≡ key_blocks_of H k)
-  key_block-short k b l e = (e ∙ sym (key-short (digest H) 64 k l), sym (key_count-short (digest H) 64 block_count k l))
+  pub key_block_short : (k b : List ℕ) → length k ≤ 64 → b ≡ room k → (b ≡ key_block_of H k) × (0 ≡ key_blocks_of H k)
+  key_block_short k b l e = (e ∙ sym (key_short (digest H) 64 k l), sym (key_count_short (digest H) 64 block_count k l))
 
-  pub key_block-long : (k b d : List ℕ) (x y : State C) (n : ℕ) → 64 < length k → length k ≤ limit → x ≡ after H [] → y ≡ taken H x k
+  pub key_block_long : (k b d : List ℕ) (x y : State C) (n : ℕ) → 64 < length k → length k ≤ limit → x ≡ after H [] → y ≡ taken H x k
       → d ≡ digest_of H y → n ≡ count_of y → b ≡ room d → (b ≡ key_block_of H k) × (n ≡ key_blocks_of H k)
-  key_block-long k b d x y n l m e f p q g =
-      let z : y ≡ after H k = f ∙ ap (λ (t : State C). taken H t k) e ∙ after-taken H k (omega arith) in
-      let c : d ≡ digest H k = p ∙ ap (digest_of H) z ∙ digest-after H k in (
-        g ∙ ap room c ∙ sym (key-long (digest H) 64 k l),
-        q ∙ ap count_of z ∙ count-after H k (omega arith) ∙ sym (key_count-long (digest H) 64 block_count k l),
+  key_block_long k b d x y n l m e f p q g =
+      let z : y ≡ after H k = f ∙ ap (λ (t : State C). taken H t k) e ∙ after_taken H k (omega arith) in
+      let c : d ≡ digest H k = p ∙ ap (digest_of H) z ∙ digest_after H k in (
+        g ∙ ap room c ∙ sym (key_long (digest H) 64 k l),
+        q ∙ ap count_of z ∙ count_after H k (omega arith) ∙ sym (key_count_long (digest H) 64 block_count k l),
       )
 
   -- sizes: the key's block xored with a byte, and what the inner hash is given
   mask_size : (x : ℕ) (k : List ℕ) → length (xored x (key_block_of H k)) ≡ 64
-  mask_size x k = length-xored x (key_block_of H k) ∙ key-length (digest H) 64 H.size (digest-length H ok) (fits H ok) k
+  mask_size x k = length-xored x (key_block_of H k) ∙ key_length (digest H) 64 H.size (digest-length H ok) (fits H ok) k
 
-  inner-size : (k m : List ℕ) → length (inner_of H k m) ≡ 64 + length m
-  inner-size k m = inner-length (digest H) 64 H.size (digest-length H ok) (fits H ok) k m
+  inner_size : (k m : List ℕ) → length (inner_of H k m) ≡ 64 + length m
+  inner_size k m = inner_length (digest H) 64 H.size (digest-length H ok) (fits H ok) k m
 
   -- a code has the hash's length
   pub digest_of-length : (st : State C) → length (digest_of H st) ≡ H.size
@@ -93,18 +93,18 @@ module _ {C : Type 0} (H : Hash C) (ok : Sized H) where
       let f : (o ++ d) ++ pad (length (o ++ d)) ≡ o ++ x = rw n (append_assoc o d (pad (64 + H.size))) in
       let c : block_count (o ++ d) ≡ 2 = block_count-ceiling (o ++ d) ∙ rw n (omega (arith, ok.short)) in
       ap H.code
-      (runs-two H.compress H.first o x lo ∙ ap₂ (λ (i : ℕ) (t : List ℕ). runs H.compress i H.first t) (sym c) (sym f))
+      (runs_two H.compress H.first o x lo ∙ ap₂ (λ (i : ℕ) (t : List ℕ). runs H.compress i H.first t) (sym c) (sym f))
 
   -- the code of a state
-  pub mac_digest-after : (k m : List ℕ) → mac_digest H (mac_after H k m) ≡ hmac_of H k m
+  pub mac_digest_after : (k m : List ℕ) → mac_digest H (mac_after H k m) ≡ hmac_of H k m
   unfolding mac_digest mac_after
-  mac_digest-after k m =
-      nested (digest H) 64 (after H) (digest_of H) (runs H.compress 1 H.first) last k m _ _ refl refl (digest-after H (inner_of H k m))
+  mac_digest_after k m =
+      nested (digest H) 64 (after H) (digest_of H) (runs H.compress 1 H.first) last k m _ _ refl refl (digest_after H (inner_of H k m))
       (outer_law (xored 0x5c (key_block_of H k)) (digest H (inner_of H k m)) (mask_size 0x5c k) (digest-length H ok (inner_of H k m)))
 
-  key_count-most : (k : List ℕ) → length k ≤ limit → key_blocks_of H k ≤ ceiling (limit + 9) 64
+  key_count_most : (k : List ℕ) → length k ≤ limit → key_blocks_of H k ≤ ceiling (limit + 9) 64
   unfolding key_count
-  key_count-most k l = most (leb (length k) 64) (block_count k) (omega (arith, block_count-ceiling k))
+  key_count_most k l = most (leb (length k) 64) (block_count k) (omega (arith, block_count-ceiling k))
     where
       most : (b : Bool) (n : ℕ) → n ≤ ceiling (limit + 9) 64 → cond b 0 n ≤ ceiling (limit + 9) 64
       most true n h = omega arith
@@ -115,41 +115,41 @@ module _ {C : Type 0} (H : Hash C) (ok : Sized H) where
   sums a b c n e l f = omega arith
 
   -- the count of a state
-  pub mac_count-after : (k m : List ℕ) → length k ≤ limit → length m ≤ limit → mac_count (mac_after H k m) ≡ hmac_blocks_of H k m
+  pub mac_count_after : (k m : List ℕ) → length k ≤ limit → length m ≤ limit → mac_count (mac_after H k m) ≡ hmac_blocks_of H k m
   unfolding mac_count mac_after hmac_count
-  mac_count-after k m lk lm =
+  mac_count_after k m lk lm =
       let i : List ℕ = inner_of H k m in
       let o : List ℕ = outer (digest H) 64 k m in
-      let ni : length i ≡ 64 + length m = inner-size k m in
-      let no : length o ≡ 64 + H.size = outer-length (digest H) 64 H.size (digest-length H ok) (fits H ok) k m in
+      let ni : length i ≡ 64 + length m = inner_size k m in
+      let no : length o ≡ 64 + H.size = outer_length (digest H) 64 H.size (digest-length H ok) (fits H ok) k m in
       let co : block_count o ≡ 2 = block_count-ceiling o ∙ rw no (omega (arith, ok.short)) in
       let ci : block_count i ≡ ceiling (length i + 9) 64 = block_count-ceiling i in
-      let ck : key_blocks_of H k ≤ ceiling (limit + 9) 64 = key_count-most k lk in
+      let ck : key_blocks_of H k ≤ ceiling (limit + 9) 64 = key_count_most k lk in
       sums (key_blocks_of H k) (block_count i) (count_of (after H i)) (key_blocks_of H k + block_count i + block_count o)
-      (rw co refl) (omega arith) (count-after H i (omega arith))
+      (rw co refl) (omega arith) (count_after H i (omega arith))
 
   -- a piece more
-  pub mac_taken-after : (k m s : List ℕ) → length m + length s ≤ limit → mac_taken H (mac_after H k m) s ≡ mac_after H k (m ++ s)
+  pub mac_taken_after : (k m s : List ℕ) → length m + length s ≤ limit → mac_taken H (mac_after H k m) s ≡ mac_after H k (m ++ s)
   unfolding mac_taken mac_after inner
-  mac_taken-after k m s l =
+  mac_taken_after k m s l =
       let b : List ℕ = xored 0x36 (key_block_of H k) in
       let nb : length b ≡ 64 = mask_size 0x36 k in
       let h : length (b ++ m) + length s < 2 ^ 32 = rw (length-append b m) (omega arith) in
-      let e : taken H (after H (b ++ m)) s ≡ after H (b ++ (m ++ s)) = taken-after H (b ++ m) s h ∙ ap (after H) (append_assoc b m s) in
+      let e : taken H (after H (b ++ m)) s ≡ after H (b ++ (m ++ s)) = taken_after H (b ++ m) s h ∙ ap (after H) (append_assoc b m s) in
       λ i. record { inner = e i; outer = (mac_after H k m).outer; blocks = (mac_after H k m).blocks }
 
   -- the bytes that the inner hash of a state was given
-  pub mac-len_after : (k m : List ℕ) → (mac_after H k m).inner.len ≡ 64 + length m
+  pub mac_len_after : (k m : List ℕ) → (mac_after H k m).inner.len ≡ 64 + length m
   unfolding mac_after after
-  mac-len_after k m = inner-size k m
+  mac_len_after k m = inner_size k m
 
   -- a running HMAC tells the key's blocks, the two key blocks and the floor of n / 64
-  pub mac_running-after : (k m : List ℕ) → length k ≤ limit → length m ≤ limit
+  pub mac_running_after : (k m : List ℕ) → length k ≤ limit → length m ≤ limit
       → mac_running (mac_after H k m) ≡ key_blocks_of H k + 2 + length m / 64
   unfolding mac_running mac_after after
-  mac_running-after k m lk lm =
-      let ni : length (inner_of H k m) ≡ 64 + length m = inner-size k m in
-      let ck : key_blocks_of H k ≤ ceiling (limit + 9) 64 = key_count-most k lk in
+  mac_running_after k m lk lm =
+      let ni : length (inner_of H k m) ≡ 64 + length m = inner_size k m in
+      let ck : key_blocks_of H k ≤ ceiling (limit + 9) 64 = key_count_most k lk in
       omega arith
 
   -- a state after a piece, by its parts

@@ -19,21 +19,21 @@ module _ {A : Type 0} {x y v : A} {n k : ℕ} {t : Res Unit} where
   unfolding need
   no p = (p.answer, p.value, p.blocks)
 
-  pub say-yes : {ok : Bool} → ok ≡ true → t ≡ accept tt → v ≡ x → k ≡ n → Answer ok x y n t v k
+  pub say_yes : {ok : Bool} → ok ≡ true → t ≡ accept tt → v ≡ x → k ≡ n → Answer ok x y n t v k
   unfolding need
-  say-yes o a b c = rw o (record { answer = a; value = b; blocks = c })
+  say_yes o a b c = rw o (record { answer = a; value = b; blocks = c })
 
-  pub say-no : {ok : Bool} → ok ≡ false → t ≡ refuse 37 0 → v ≡ y → k ≡ 0 → Answer ok x y n t v k
+  pub say_no : {ok : Bool} → ok ≡ false → t ≡ refuse 37 0 → v ≡ y → k ≡ 0 → Answer ok x y n t v k
   unfolding need
-  say-no o a b c = rw o (record { answer = a; value = b; blocks = c })
+  say_no o a b c = rw o (record { answer = a; value = b; blocks = c })
 
 -- the same, said otherwise
 module _ {A : Type 0} {ok : Bool} {x y v : A} {n k : ℕ} {t : Res Unit} where
   pub as_yes : Answer true x y n t v k → ok ≡ true → (z w : A) (c : ℕ) → x ≡ z → n ≡ c → Answer ok z w c t v k
-  as_yes p o z w c f g = let q = yes p in say-yes o q.0 (q.1 ∙ f) (q.2 ∙ g)
+  as_yes p o z w c f g = let q = yes p in say_yes o q.0 (q.1 ∙ f) (q.2 ∙ g)
 
   pub as_no : Answer false x y n t v k → ok ≡ false → (z w : A) (c : ℕ) → y ≡ w → Answer ok z w c t v k
-  as_no p o z w c f = let q = no p in say-no o q.0 (q.1 ∙ f) q.2
+  as_no p o z w c f = let q = no p in say_no o q.0 (q.1 ∙ f) q.2
 
 -- no second answer
 pub only : {A : Type 0} {ok : Bool} {x y v w : A} {n k l : ℕ} {t u : Res Unit} → Answer ok x y n t v k → Answer ok x y n u w l
@@ -49,12 +49,12 @@ within_law a n k l = by (leb (a + n) k) refl
     by false e = let h : k < a + n = leb-false (a + n) k e in lt-leb a (k - n) (omega arith) ∙ sym e
 
 -- two tests
-pub first-no : (a b : Bool) → a ≡ false → (a && b) ≡ false
-first-no a b e = rw e
+pub first_no : (a b : Bool) → a ≡ false → (a && b) ≡ false
+first_no a b e = rw e
 
-pub second-no : (a b : Bool) → b ≡ false → (a && b) ≡ false
-second-no true b e = e
-second-no false b e = refl
+pub second_no : (a b : Bool) → b ≡ false → (a && b) ≡ false
+second_no true b e = e
+second_no false b e = refl
 
 pub both : (a b : Bool) → a ≡ true → b ≡ true → (a && b) ≡ true
 both a b e f = rw (e, f)

@@ -8,13 +8,13 @@ use lib.ListN.{length, take, replicate, length-append, length-replicate}
 use lib.Seq.{take_at, take-append-add, length-take-le}
 use Rattle.octets.specs.Place.{filled, pasted, begun}
 use Rattle.octets.specs.Promise.{PutPromise}
-use Rattle.octets.proofs.Filled.{drop-replicate, put-filled, filled-long}
-use Rattle.octets.proofs.Place.{put-done, begun-put}
+use Rattle.octets.proofs.Filled.{drop-replicate, put_filled, filled_long}
+use Rattle.octets.proofs.Place.{put_done, begun_put}
 use Rattle.running.specs.Running.{room}
 
-pub length-room : (p : List ℕ) → length p ≤ 64 → length (room p) ≡ 64
+pub length_room : (p : List ℕ) → length p ≤ 64 → length (room p) ≡ 64
 unfolding filled
-length-room p l = length-append p (replicate (64 - length p) 0) ∙ rw (length-replicate {A = ℕ} (64 - length p) 0) (omega arith)
+length_room p l = length-append p (replicate (64 - length p) 0) ∙ rw (length-replicate {A = ℕ} (64 - length p) 0) (omega arith)
 
 take-replicate : (k n : ℕ) → k ≤ n → take k (replicate {A = ℕ} n 0) ≡ replicate {A = ℕ} k 0
 take-replicate zero n l = refl
@@ -22,9 +22,9 @@ take-replicate (suc k) zero l = absurd (omega arith)
 take-replicate (suc k) (suc n) l = ap (λ (t : List ℕ). 0 ∷ t) (take-replicate k n (omega arith))
 
 -- the first n bytes of a buffer
-pub take-room : (p : List ℕ) (n : ℕ) → length p ≤ n → n ≤ 64 → take n (room p) ≡ p ++ replicate (n - length p) 0
+pub take_room : (p : List ℕ) (n : ℕ) → length p ≤ n → n ≤ 64 → take n (room p) ≡ p ++ replicate (n - length p) 0
 unfolding filled
-take-room p n l m =
+take_room p n l m =
     let e : n ≡ length p + (n - length p) = omega arith in
     let f : n - length p ≤ 64 - length p = omega arith in
     ap (λ (k : ℕ). take k (p ++ replicate (64 - length p) 0)) e
@@ -38,20 +38,20 @@ room_back p = take_at p (replicate (64 - length p) 0) (length p) refl
 
 -- a full buffer has no zeros behind
 pub room_full : (p : List ℕ) → length p ≡ 64 → room p ≡ p
-room_full p e = filled-long 64 p (omega arith)
+room_full p e = filled_long 64 p (omega arith)
 
-begun-zeros : (n : ℕ) (s : List ℕ) → begun s (replicate n 0) ≡ filled n s
+begun_zeros : (n : ℕ) (s : List ℕ) → begun s (replicate n 0) ≡ filled n s
 unfolding begun filled
-begun-zeros n s = ap (λ (t : List ℕ). s ++ t) (drop-replicate (length s) n)
+begun_zeros n s = ap (λ (t : List ℕ). s ++ t) (drop-replicate (length s) n)
 
 -- two pieces put into zeros, one behind the other
 pub fill_block_law : (buf s x y : List ℕ) (n : ℕ) (a b : Bool) → length buf ≡ 64 → n + length s ≤ 64
     → PutPromise (replicate 64 0) 0 (take n buf) a x → PutPromise x n s b y → y ≡ room (take n buf ++ s)
 fill_block_law buf s x y n a b l h p q =
     let k : length (take n buf) ≡ n = length-take-le n buf (omega arith) in
-    let e : x ≡ room (take n buf) = put-filled 64 (take n buf) a x p (omega arith) in
-    let w : length x ≡ 64 = ap length e ∙ length-room (take n buf) (omega arith) in
-    put-done x n s b y q (omega arith)
-    ∙ ap (λ (t : List ℕ). pasted t n s) (e ∙ sym (begun-zeros 64 (take n buf)))
-    ∙ begun-put (take n buf) (replicate 64 0) s n k
-    ∙ begun-zeros 64 (take n buf ++ s)
+    let e : x ≡ room (take n buf) = put_filled 64 (take n buf) a x p (omega arith) in
+    let w : length x ≡ 64 = ap length e ∙ length_room (take n buf) (omega arith) in
+    put_done x n s b y q (omega arith)
+    ∙ ap (λ (t : List ℕ). pasted t n s) (e ∙ sym (begun_zeros 64 (take n buf)))
+    ∙ begun_put (take n buf) (replicate 64 0) s n k
+    ∙ begun_zeros 64 (take n buf ++ s)

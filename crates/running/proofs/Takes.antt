@@ -69,10 +69,10 @@ module _ {C : Type 0} (H : Hash C) where
   waits h p len k e = rw e (room_back p)
 
   -- what waits after a piece
-  pending-taken : (st : State C) (s : List ℕ) → length st.buf ≡ 64
+  pending_taken : (st : State C) (s : List ℕ) → length st.buf ≡ 64
       → pending (taken H st s) ≡ drop (length (pending st ++ s) / 64 * 64) (pending st ++ s)
   unfolding taken absorb
-  pending-taken st s e =
+  pending_taken st s e =
       let l : List ℕ = pending st ++ s in
       let n : length l ≡ st.len % 64 + length s = length-append (pending st) s ∙ rw (length-pending st e) in
       let m : plus st.len (length s) % 64 ≡ length (drop (length l / 64 * 64) l) =
@@ -103,11 +103,11 @@ module _ {C : Type 0} (H : Hash C) where
   taken_is st s = refl
 
   -- two pieces are their joined bytes
-  taken-taken : (st : State C) (a b : List ℕ) → length st.buf ≡ 64 → taken H (taken H st a) b ≡ taken H st (a ++ b)
-  taken-taken st a b e =
+  taken_taken : (st : State C) (a b : List ℕ) → length st.buf ≡ 64 → taken H (taken H st a) b ≡ taken H st (a ++ b)
+  taken_taken st a b e =
       let l : List ℕ = pending st ++ a in
       taken_is (taken H st a) b
-      ∙ rw (pending-taken st a e)
+      ∙ rw (pending_taken st a e)
       (ap (λ (x : State C). absorb H x (length b) (drop (length l / 64 * 64) l ++ b)) (taken_is st a)
       ∙ absorb-absorb st (length a) (length b) l b
       ∙ ap₂ (absorb H st) (sym (length-append a b)) (append_assoc (pending st) a b))
@@ -118,28 +118,28 @@ module _ {C : Type 0} (H : Hash C) where
       → r ≡ taken H x (take (length s - n) (drop n s)) → r ≡ taken H st s
   absorb_law st x r s n e f g =
       let t : take (length s - n) (drop n s) ≡ drop n s = take_all (length s - n) (drop n s) (rw (length-drop n s) (omega arith)) in
-      g ∙ ap₂ (taken H) f t ∙ taken-taken st (take n s) (drop n s) e ∙ ap (taken H st) (take-append-drop n s)
+      g ∙ ap₂ (taken H) f t ∙ taken_taken st (take n s) (drop n s) e ∙ ap (taken H st) (take-append-drop n s)
 
   -- all of a message at once
-  pub after-taken : (m : List ℕ) → length m < 2 ^ 32 → taken H (after H []) m ≡ after H m
+  pub after_taken : (m : List ℕ) → length m < 2 ^ 32 → taken H (after H []) m ≡ after H m
   unfolding taken absorb pending after runs
-  after-taken m l =
+  after_taken m l =
       let e : plus 0 (length m) ≡ length m = omega arith in
       let f : plus 0 (length m / 64) ≡ length m / 64 = omega arith in
       rw (e, f)
 
-  first-length : length (after H []).buf ≡ 64
+  first_length : length (after H []).buf ≡ 64
   unfolding after filled
-  first-length = refl
+  first_length = refl
 
   -- a piece more
-  pub taken-after : (m s : List ℕ) → length m + length s < 2 ^ 32 → taken H (after H m) s ≡ after H (m ++ s)
-  taken-after m s l =
+  pub taken_after : (m s : List ℕ) → length m + length s < 2 ^ 32 → taken H (after H m) s ≡ after H (m ++ s)
+  taken_after m s l =
       let lm : length m < 2 ^ 32 = omega arith in
       let ls : length (m ++ s) < 2 ^ 32 = rw (length-append m s) l in
-      ap (λ (x : State C). taken H x s) (sym (after-taken m lm)) ∙ taken-taken (after H []) m s first-length ∙ after-taken (m ++ s) ls
+      ap (λ (x : State C). taken H x s) (sym (after_taken m lm)) ∙ taken_taken (after H []) m s first_length ∙ after_taken (m ++ s) ls
 
   -- a state that was filled up has nothing waiting
-  pub complete-none-waits : (st x : State C) (s : List ℕ) → st.len % 64 + length s ≡ 64 → x ≡ taken H st s → x.len % 64 ≡ 0
+  pub complete_none_waits : (st x : State C) (s : List ℕ) → st.len % 64 + length s ≡ 64 → x ≡ taken H st s → x.len % 64 ≡ 0
   unfolding taken absorb
-  complete-none-waits st x s e f = ap (λ (y : State C). y.len % 64) f ∙ omega arith
+  complete_none_waits st x s e f = ap (λ (y : State C). y.len % 64) f ∙ omega arith

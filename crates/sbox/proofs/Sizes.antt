@@ -3,55 +3,55 @@ use Prim.Native.Nat.{ℕ, zero, suc, ◌*◌, ◌/◌, ◌%◌, ◌^◌, ◌<◌
 use native.Mathlib.Nat.{mod-lt}
 use native.Mathlib.Omega.{arith}
 use lib.Dec.{lit<}
-use Rattle.octets.proofs.Xor.{xor-byte}
+use Rattle.octets.proofs.Xor.{xor_byte}
 use Rattle.sbox.specs.Field.{xtime, product, mul, squares, inverse}
 use Rattle.sbox.specs.Substitution.{of_bits, affine_bit, affine, unaffine_bit, unaffine, sub_byte, unsub_byte}
 
-pub xtime-byte : (b : ℕ) → xtime b < 256
+pub xtime_byte : (b : ℕ) → xtime b < 256
 unfolding xtime
-xtime-byte b = xor-byte (b * 2 % 256) (b / 128 % 2 * 27) (omega arith) (omega arith)
+xtime_byte b = xor_byte (b * 2 % 256) (b / 128 % 2 * 27) (omega arith) (omega arith)
 
 -- a digit times a byte
-digit-byte : (a b : ℕ) → b < 256 → a % 2 * b < 256
-digit-byte a b h = go (a % 2) (omega arith)
+digit_byte : (a b : ℕ) → b < 256 → a % 2 * b < 256
+digit_byte a b h = go (a % 2) (omega arith)
   where
     go : (d : ℕ) → d < 2 → d * b < 256
     go zero l = omega arith
     go (suc zero) l = omega arith
     go (suc (suc d)) l = omega arith
 
-pub product-byte : (k a b : ℕ) → b < 256 → product k a b < 256
+pub product_byte : (k a b : ℕ) → b < 256 → product k a b < 256
 unfolding product
-product-byte zero a b h = lit< tt
-product-byte (suc k) a b h =
-    xor-byte (a % 2 * b) (product k (a / 2) (xtime b)) (digit-byte a b h) (product-byte k (a / 2) (xtime b) (xtime-byte b))
+product_byte zero a b h = lit< tt
+product_byte (suc k) a b h =
+    xor_byte (a % 2 * b) (product k (a / 2) (xtime b)) (digit_byte a b h) (product_byte k (a / 2) (xtime b) (xtime_byte b))
 
-pub mul-byte : (a b : ℕ) → b < 256 → mul a b < 256
+pub mul_byte : (a b : ℕ) → b < 256 → mul a b < 256
 unfolding mul
-mul-byte a b h = product-byte 8 a b h
+mul_byte a b h = product_byte 8 a b h
 
-squares-byte : (k a : ℕ) → squares k a < 256
+squares_byte : (k a : ℕ) → squares k a < 256
 unfolding squares
-squares-byte zero a = lit< tt
-squares-byte (suc k) a = mul-byte (mul a a) (squares k (mul a a)) (squares-byte k (mul a a))
+squares_byte zero a = lit< tt
+squares_byte (suc k) a = mul_byte (mul a a) (squares k (mul a a)) (squares_byte k (mul a a))
 
-pub inverse-byte : (a : ℕ) → inverse a < 256
+pub inverse_byte : (a : ℕ) → inverse a < 256
 unfolding inverse
-inverse-byte a = squares-byte 7 a
+inverse_byte a = squares_byte 7 a
 
 bits_lt : (n : ℕ) (f : ℕ → ℕ) → of_bits n f < 2 ^ n
 unfolding of_bits
 bits_lt zero f = lit< tt
 bits_lt (suc n) f = omega (arith, bits_lt n (λ i. f (suc i)), mod-lt (f 0) (lit< {m = 0} {n = 2} tt))
 
-pub sub_byte-byte : (a : ℕ) → sub_byte a < 256
+pub sub_byte_byte : (a : ℕ) → sub_byte a < 256
 unfolding sub_byte affine
-sub_byte-byte a = bits_lt 8 (affine_bit (inverse a))
+sub_byte_byte a = bits_lt 8 (affine_bit (inverse a))
 
-pub unaffine-byte : (a : ℕ) → unaffine a < 256
+pub unaffine_byte : (a : ℕ) → unaffine a < 256
 unfolding unaffine
-unaffine-byte a = bits_lt 8 (unaffine_bit a)
+unaffine_byte a = bits_lt 8 (unaffine_bit a)
 
-pub unsub_byte-byte : (a : ℕ) → unsub_byte a < 256
+pub unsub_byte_byte : (a : ℕ) → unsub_byte a < 256
 unfolding unsub_byte
-unsub_byte-byte a = inverse-byte (unaffine a)
+unsub_byte_byte a = inverse_byte (unaffine a)

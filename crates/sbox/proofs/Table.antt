@@ -8,7 +8,7 @@ use Rattle.octets.proofs.Agree.{agree}
 use Rattle.sbox.specs.Field.{inverse}
 use Rattle.sbox.specs.Substitution.{unaffine, sub_byte, unsub_byte}
 use Rattle.sbox.proofs.Affine.{unaffine-affine}
-use Rattle.sbox.proofs.Sizes.{inverse-byte, unaffine-byte}
+use Rattle.sbox.proofs.Sizes.{inverse_byte, unaffine_byte}
 
 abbrev pub sbox : List ℕ
 sbox =
@@ -55,11 +55,11 @@ sbox_rule = agree (λ a. get_or sbox a 0) sub_byte 256 tt
 -- so the inverse in the field can be read from the table, and the tests below need no power
 pub inverse_rule : (a : ℕ) → a < 256 → inverse a ≡ unaffine (get_or sbox a 0)
 unfolding sub_byte
-inverse_rule a h = sym (unaffine-affine (inverse a) (inverse-byte a)) ∙ ap unaffine (sym (sbox_rule a h))
+inverse_rule a h = sym (unaffine-affine (inverse a) (inverse_byte a)) ∙ ap unaffine (sym (sbox_rule a h))
 
 pub unsbox_rule : (a : ℕ) → a < 256 → get_or unsbox a 0 ≡ unsub_byte a
 unfolding unsub_byte
-unsbox_rule a h = test a h ∙ sym (inverse_rule (unaffine a) (unaffine-byte a))
+unsbox_rule a h = test a h ∙ sym (inverse_rule (unaffine a) (unaffine_byte a))
   where
     test : (b : ℕ) → b < 256 → get_or unsbox b 0 ≡ unaffine (get_or sbox (unaffine b) 0)
     test = unfold unaffine in agree (λ b. get_or unsbox b 0) (λ b. unaffine (get_or sbox (unaffine b) 0)) 256 tt

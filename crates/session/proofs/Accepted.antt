@@ -16,21 +16,21 @@ use Rattle.messages.specs.OpenSession.{Response, open_checked, open_numbers, ope
 use Rattle.messages.specs.Rakp.{message1, message3, fields4, message4}
 use Rattle.messages.specs.declared.rakp_2.RakpMessage2.{RakpMessage2}
 use Rattle.messages.specs.declared.rakp_4.RakpMessage4.{RakpMessage4}
-use Rattle.messages.proofs.Names.{taken-name}
+use Rattle.messages.proofs.Names.{taken_name}
 use Rattle.session.specs.Record.{step_number, in_step, answered, keyed, opened}
 use Rattle.session.specs.Steps.{Made, level_allowed, ready_begin, made_begin, begin_of, ready_open, heard_open, one_to, made_open, open_of}
 use Rattle.session.specs.Steps.{ready_two, heard_two, code_two, sik_two, code_three, three_of, made_two, proved_two, two_of, ready_four, value_four, heard_four, four_of}
 use Rattle.session.specs.declared.Asked.{Asked}
 use Rattle.session.specs.declared.Record.{Record}
 
-pub in_step-parts : (s : Record) (k : ℕ) → in_step s k ≡ true → (step_number s.step ≡ k) × (s.begun.username.len ≤ 16)
+pub in_step_parts : (s : Record) (k : ℕ) → in_step s k ≡ true → (step_number s.step ≡ k) × (s.begun.username.len ≤ 16)
 unfolding in_step
-in_step-parts s k e =
+in_step_parts s k e =
     let a = (and-eq-true_iff (eqb (step_number s.step) k) (leb s.begun.username.len 16)).0 e in
     (eqb-true _ _ a.0, leb-true _ _ a.1)
 
 -- Begin
-pub begin-tells : (asked : Asked) (name : List ℕ) (room : ℕ) (M : Made)
+pub begin_tells : (asked : Asked) (name : List ℕ) (room : ℕ) (M : Made)
     → begin_of asked name room ≡ accept M
     → (asked.console ≡ 0 → ⊥)
     × (level_allowed asked.level ≡ true)
@@ -38,12 +38,12 @@ pub begin-tells : (asked : Asked) (name : List ℕ) (room : ℕ) (M : Made)
     × (allowed name ≡ true)
     × (M ≡ made_begin asked (stored name))
 unfolding begin_of ready_begin
-begin-tells asked name room M e =
+begin_tells asked name room M e =
     let a = then_inv _ _ _ e in
     let b = need_inv _ _ _ _ a.1 in
     let l = need_inv _ _ _ _ b.1 in
     let c = then_inv _ _ _ a.2 in
-    let d = taken-name name c.0 c.1 in
+    let d = taken_name name c.0 c.1 in
     let f = need_inv _ _ _ _ c.2 in
     let g : made_begin asked (stored c.0) ≡ M = accept_inj _ _ f.1 in (
       eqb-false asked.console 0 (not-true _ b.0),
@@ -54,9 +54,9 @@ begin-tells asked name room M e =
     )
 
 -- the open response
-pub response-system : (m : List ℕ) (r : Response) → open_response m ≡ accept r → r.system ≡ 0 → ⊥
+pub response_system : (m : List ℕ) (r : Response) → open_response m ≡ accept r → r.system ≡ 0 → ⊥
 unfolding open_response open_checked open_fields open_numbers
-response-system m r e z =
+response_system m r e z =
     let a = then_inv _ _ _ e in
     let b = need_inv _ _ _ _ a.1 in
     let c = need_inv _ _ _ _ b.1 in
@@ -88,14 +88,14 @@ open_tells s m rm room M e =
     let k : d.0 ≡ c.0 = accept_inj _ _ h.1 in
     let w : made_open s rm c.0 ≡ M = accept_inj _ _ c.2 in (
       c.0,
-      (in_step-parts s 1 b.0).0,
-      (λ z. response-system m d.0 d.1 (ap (λ (x : Response). x.system) k ∙ z)),
+      (in_step_parts s 1 b.0).0,
+      (λ z. response_system m d.0 d.1 (ap (λ (x : Response). x.system) k ∙ z)),
       ap (λ (x : Made). x.next) (sym w),
       ap (λ (x : Made). x.bytes) (sym w),
     )
 
 -- message 2
-pub two-tells : (most : ℕ) (s : Record) (kg password m : List ℕ) (room : ℕ) (M : Made) → two_of most s kg password m room ≡ accept M
+pub two_tells : (most : ℕ) (s : Record) (kg password m : List ℕ) (room : ℕ) (M : Made) → two_of most s kg password m room ≡ accept M
     → (f : RakpMessage2)
     × (step_number s.step ≡ 2)
     × (M.next ≡ keyed s f.guid (sik_two s kg password f))
@@ -103,14 +103,14 @@ pub two-tells : (most : ℕ) (s : Record) (kg password m : List ℕ) (room : ℕ
     × (heard_two s m ≡ accept f)
     × (drop f.code.at m ≡ code_two s password f)
 unfolding two_of ready_two proved_two made_two
-two-tells most s kg password m room M e =
+two_tells most s kg password m room M e =
     let a = then_inv _ _ _ e in
     let b = need_inv _ _ _ _ a.1 in
     let c = then_inv _ _ _ a.2 in
     let d = need_inv _ _ _ _ c.2 in
     let w : made_two s kg password c.0 ≡ M = accept_inj _ _ d.1 in (
       c.0,
-      (in_step-parts s 2 b.0).0,
+      (in_step_parts s 2 b.0).0,
       ap (λ (x : Made). x.next) (sym w),
       ap (λ (x : Made). x.bytes) (sym w),
       c.1,
@@ -118,10 +118,10 @@ two-tells most s kg password m room M e =
     )
 
 -- message 4: the value was compared, and it is the one of the definitions
-pub four-tells : (s : Record) (m : List ℕ) (M : Made) → four_of s m ≡ accept M
+pub four_tells : (s : Record) (m : List ℕ) (M : Made) → four_of s m ≡ accept M
     → (step_number s.step ≡ 3) × (drop 8 m ≡ value_four s) × (M.next ≡ opened s)
 unfolding four_of ready_four heard_four message4 fields4
-four-tells s m M e =
+four_tells s m M e =
     let a = then_inv _ _ _ e in
     let b = need_inv _ _ _ _ a.1 in
     let c = then_inv _ _ _ a.2 in
@@ -133,7 +133,7 @@ four-tells s m M e =
     let n : fields4 m ≡ d.0 = accept_inj _ _ k.2 in
     let v : drop d.0.value.at m ≡ value_four s = same_true _ _ h.0 in
     let w = accept_inj _ _ c.2 in (
-      (in_step-parts s 3 b.0).0,
+      (in_step_parts s 3 b.0).0,
       ap (λ (x : RakpMessage4). drop x.value.at m) n ∙ v,
       ap (λ (x : Made). x.next) (sym w),
     )

@@ -8,7 +8,7 @@ use lib.Dec.{eqb}
 use lib.ListN.{length, drop}
 use borrow.Author.Tests.{eq-eqb, ne_eqb, le-leb}
 use Rattle.refusal.specs.Order.{Res, refuse, accept, need, and_then}
-use Rattle.refusal.proofs.Order.{pass, need-no, then_refuse, then_accept}
+use Rattle.refusal.proofs.Order.{pass, need_no, then_refuse, then_accept}
 use Rattle.octets.specs.Equal.{same}
 use Rattle.octets.proofs.Equal.{same_self, same_true}
 use Rattle.messages.specs.Name.{allowed, longest_name, username_of, stored}
@@ -31,10 +31,10 @@ same_of : (l m : List ℕ) → l ≡ m → same l m ≡ true
 same_of l m e = ap (same l) (sym e) ∙ same_self l
 
 -- Begin
-pub begin-accepts : (asked : Asked) (name : List ℕ) (room : ℕ) → (asked.console ≡ 0 → ⊥) → level_allowed asked.level ≡ true
+pub begin_accepts : (asked : Asked) (name : List ℕ) (room : ℕ) → (asked.console ≡ 0 → ⊥) → level_allowed asked.level ≡ true
     → length name ≤ longest_name → allowed name ≡ true → request_size ≤ room → begin_of asked name room ≡ accept (made_begin asked (stored name))
 unfolding begin_of ready_begin username_of
-begin-accepts asked name room d l n a b =
+begin_accepts asked name room d l n a b =
     then_accept _ _ tt (pass _ _ _ _ (ap not (ne_eqb _ 0 d)) (pass _ _ _ _ l refl))
     ∙ then_accept _ _ name (pass _ _ _ _ (le-leb _ _ n) (pass _ _ _ _ a refl))
     ∙ pass _ _ _ _ (le-leb _ _ b) refl
@@ -54,22 +54,22 @@ open_accepts s m rm room r a b e t i c =
     (then_accept _ _ r e ∙ pass _ _ _ _ (eq-eqb _ open_tag t) (pass _ _ _ _ (eq-eqb _ _ i) (pass _ _ _ _ c refl)))
 
 -- message 2
-legal_kg-yes : (n : ℕ) → (n ≡ 0) ⊎ (n ≡ kg_size) → legal_kg n ≡ true
-legal_kg-yes n h =
+legal_kg_yes : (n : ℕ) → (n ≡ 0) ⊎ (n ≡ kg_size) → legal_kg n ≡ true
+legal_kg_yes n h =
     ⊎_elim
     (λ (e : n ≡ 0). ap (λ (t : Bool). t || eqb n kg_size) (eq-eqb n 0 e))
     (λ (e : n ≡ kg_size). ap (λ (t : Bool). eqb n 0 || t) (eq-eqb n kg_size e) ∙ or-true (eqb n 0))
     h
 
-pub two-accepts : (most : ℕ) (s : Record) (kg password m : List ℕ) (room : ℕ) (f : RakpMessage2) → in_step s 2 ≡ true
+pub two_accepts : (most : ℕ) (s : Record) (kg password m : List ℕ) (room : ℕ) (f : RakpMessage2) → in_step s 2 ≡ true
     → (length kg ≡ 0) ⊎ (length kg ≡ kg_size) → length password ≤ most → three_size ≤ room → message2 m ≡ accept f → f.tag ≡ tag1
     → f.console ≡ s.begun.console → f.code.len ≡ code_size → drop f.code.at m ≡ code_two s password f
     → two_of most s kg password m room ≡ accept (made_two s kg password f)
 unfolding two_of ready_two heard_two proved_two
-two-accepts most s kg password m room f a k p b e t i n c =
+two_accepts most s kg password m room f a k p b e t i n c =
     then_accept _ _ tt
     (pass _ _ _ _ a
-    (pass _ _ _ _ (legal_kg-yes (length kg) k) (pass _ _ _ _ (le-leb _ most p) (pass _ _ _ _ (le-leb three_size _ b) refl))))
+    (pass _ _ _ _ (legal_kg_yes (length kg) k) (pass _ _ _ _ (le-leb _ most p) (pass _ _ _ _ (le-leb three_size _ b) refl))))
     ∙ then_accept _ _ f
     (then_accept _ _ f e
     ∙ pass _ _ _ _ (eq-eqb _ tag1 t) (pass _ _ _ _ (eq-eqb _ _ i) (pass _ _ _ _ (eq-eqb _ code_size n) refl)))
@@ -92,8 +92,8 @@ other l m false e n = refl
 
 module _ (s : Record) (m : List ℕ) (f : RakpMessage4) (a : in_step s 3 ≡ true) (e : message4 m ≡ accept f) (t : f.tag ≡ tag3)
     (i : f.id ≡ s.begun.console) where
-  pub four-accepts : drop f.value.at m ≡ value_four s → four_of s m ≡ accept (record { next = opened s; bytes = [] })
-  four-accepts v = four_decides s m f a e t i ∙ then_accept _ _ f (pass _ _ _ _ (same_of _ _ v) refl)
+  pub four_accepts : drop f.value.at m ≡ value_four s → four_of s m ≡ accept (record { next = opened s; bytes = [] })
+  four_accepts v = four_decides s m f a e t i ∙ then_accept _ _ f (pass _ _ _ _ (same_of _ _ v) refl)
 
-  pub four-refuses : (drop f.value.at m ≡ value_four s → ⊥) → four_of s m ≡ refuse 32 0
-  four-refuses v = four_decides s m f a e t i ∙ then_refuse _ _ 32 0 (need-no _ _ _ _ (other _ _ _ refl v))
+  pub four_refuses : (drop f.value.at m ≡ value_four s → ⊥) → four_of s m ≡ refuse 32 0
+  four_refuses v = four_decides s m f a e t i ∙ then_refuse _ _ 32 0 (need_no _ _ _ _ (other _ _ _ refl v))

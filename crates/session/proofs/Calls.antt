@@ -11,10 +11,10 @@ use Rattle.refusal.specs.Call.{Call}
 use Rattle.refusal.specs.Order.{Res, refuse, accept, done}
 use Rattle.refusal.specs.Outcome.{told}
 use Rattle.refusal.specs.declared.Outcome.TheVariants.{Done}
-use Rattle.refusal.proofs.Order.{pass, need-no}
-use Rattle.refusal.proofs.Told.{outcome-one}
+use Rattle.refusal.proofs.Order.{pass, need_no}
+use Rattle.refusal.proofs.Told.{outcome_one}
 use Rattle.octets.specs.Place.{begun}
-use Rattle.octets.proofs.Place.{begun-take}
+use Rattle.octets.proofs.Place.{begun_take}
 use Rattle.messages.specs.Name.{stored}
 use Rattle.session.specs.Constants.{longest_password}
 use Rattle.session.specs.Record.{in_step, closed, no_keys, none_agreed, opened}
@@ -25,7 +25,7 @@ use Rattle.session.specs.Exchange.{Seen, sent, Suits, Wrote, Hears, Opened, Exch
 use Rattle.session.specs.declared.Asked.{Asked}
 use Rattle.session.specs.declared.Record.{Record}
 use Rattle.session.specs.declared.state.Established.{Established}
-use Rattle.session.proofs.Accepting.{is_in_step, begin-accepts}
+use Rattle.session.proofs.Accepting.{is_in_step, begin_accepts}
 use Rattle.session.proofs.Exchange.{StepsAgree, exchanged}
 use Rattle.session.proofs.request.begin.Kinds as begin-kinds
 use Rattle.session.proofs.request.begin.Reads as begin-reads
@@ -73,21 +73,21 @@ pub record Calls (y : System) : Type 0 where
   pub open_record : opening.args.0 ≡ begin.answer.state
   pub open_message : opening.args.1.0.now ≡ response y (sent (seen_begin begin))
   pub two_record : message_2.args.0 ≡ opening.answer.state
-  pub two-kg : message_2.args.1.0.now ≡ y.kg
-  pub two-password : message_2.args.1.1.0.now ≡ y.password
-  pub two-message : message_2.args.1.1.1.0.now ≡ second y (sent (seen_begin begin)) (sent (seen_open opening))
+  pub two_kg : message_2.args.1.0.now ≡ y.kg
+  pub two_password : message_2.args.1.1.0.now ≡ y.password
+  pub two_message : message_2.args.1.1.1.0.now ≡ second y (sent (seen_begin begin)) (sent (seen_open opening))
 
 -- then `message_4`, given the record s and the message m, and `sub_state`, given the record that it answered
 pub record Ends (s : Record) (m : List ℕ) : Type 0 where
   pub message_4 : FourCall
-  pub sub-state : Call 0 session-kinds.ps session-kinds.r session-reads.Post
+  pub sub_state : Call 0 session-kinds.ps session-kinds.r session-reads.Post
   pub four_record : message_4.args.0 ≡ s
-  pub four-message : message_4.args.1.0.now ≡ m
-  pub session_record : sub-state.args.0 ≡ message_4.answer.state
+  pub four_message : message_4.args.1.0.now ≡ m
+  pub session_record : sub_state.args.0 ≡ message_4.answer.state
 
 -- what the types of the arguments say
-console-small : (c : BeginCall) → c.args.0.console < 2 ^ 32
-console-small c = let g = c.typed in omega arith
+console_small : (c : BeginCall) → c.args.0.console < 2 ^ 32
+console_small c = let g = c.typed in omega arith
 
 pub random_sixteen : (c : OpenCall) → length c.args.1.1.0 ≡ 16
 random_sixteen c = let g = c.typed in omega arith
@@ -97,18 +97,18 @@ module _ (R : Res Made) (M : Made) (s : Record) (c : Seen) (p : StepPromise R s 
   made : StepPromise (accept M) s c.lent c.answer c.left
   made = rw e at p
 
-  pub made-next : c.answer.state ≡ M.next
-  made-next = made.next
+  pub made_next : c.answer.state ≡ M.next
+  made_next = made.next
 
-  pub made-sent : sent c ≡ M.bytes
-  made-sent = ap₂ take made.len made.buffer ∙ begun-take M.bytes c.lent _ refl
+  pub made_sent : sent c ≡ M.bytes
+  made_sent = ap₂ take made.len made.buffer ∙ begun_take M.bytes c.lent _ refl
 
-  made-wrote : Wrote c
-  made-wrote =
+  made_wrote : Wrote c
+  made_wrote =
       record {
-        done = outcome-one c.answer.answer Done made.answer;
-        len = ap length made-sent ∙ sym made.len;
-        rest = made.buffer ∙ ap (λ (x : List ℕ). begun x c.lent) (sym made-sent);
+        done = outcome_one c.answer.answer Done made.answer;
+        len = ap length made_sent ∙ sym made.len;
+        rest = made.buffer ∙ ap (λ (x : List ℕ). begun x c.lent) (sym made_sent);
       }
 
 -- what `sub_state` hands out of an open record, and of a closed one
@@ -117,26 +117,26 @@ session_open : (s t : Record) (e : Established) → s ≡ t → SessionPromise s
 unfolding session_of
 session_open s t e q p h =
     let g : in_step s 4 ≡ true = ap (λ (u : Record). in_step u 4) q ∙ h in
-    (outcome-one e.answer Done (p.answer ∙ pass _ _ _ _ g refl), p.session ∙ ap₂ session_of q g)
+    (outcome_one e.answer Done (p.answer ∙ pass _ _ _ _ g refl), p.session ∙ ap₂ session_of q g)
 
-session-none : (s : Record) (e : Established) → s ≡ closed → SessionPromise s e
+session_none : (s : Record) (e : Established) → s ≡ closed → SessionPromise s e
     → (told e.answer ≡ refuse 33 0) × (e.session ≡ session_with no_keys none_agreed)
 unfolding session_of in_step closed
-session-none s e q p =
+session_none s e q p =
     let h : in_step s 4 ≡ false = ap (λ (u : Record). in_step u 4) q in
-    (p.answer ∙ need-no _ _ _ _ h, p.session ∙ ap₂ session_of q h)
+    (p.answer ∙ need_no _ _ _ _ h, p.session ∙ ap₂ session_of q h)
 
 -- equals for equals: message 2's step, the system's message 4, what it makes of the messages, what it has of a record
-two-same : {s t : Record} {k l p q m n : List ℕ} (room : ℕ) → s ≡ t → k ≡ l → p ≡ q → m ≡ n
+two_same : {s t : Record} {k l p q m n : List ℕ} (room : ℕ) → s ≡ t → k ≡ l → p ≡ q → m ≡ n
     → two_of longest_password s k p m room ≡ two_of longest_password t l q n room
-two-same room a b c d i = two_of longest_password (a i) (b i) (c i) (d i) room
+two_same room a b c d i = two_of longest_password (a i) (b i) (c i) (d i) room
 
 module _ (y : System) {r u o v t w : List ℕ} (a : r ≡ u) (b : o ≡ v) (c : t ≡ w) where
   fourth-same : fourth y r o t ≡ fourth y u v w
   fourth-same i = fourth y (a i) (b i) (c i)
 
-  hears-same : (asked : Asked) (n rm : List ℕ) → Hears y asked n rm u v w → Hears y asked n rm r o t
-  hears-same asked n rm h = rw (a, b, c) h
+  hears_same : (asked : Asked) (n rm : List ℕ) → Hears y asked n rm u v w → Hears y asked n rm r o t
+  hears_same asked n rm h = rw (a, b, c) h
 
   opened-same : {s z : Record} → s ≡ z → Opened y v z → Opened y o s
   opened-same e h = rw (b, e) h
@@ -169,68 +169,68 @@ module _ (y : System) (c : Calls y) where
     steps : StepsAgree longest_password y asked name random (length one.lent) (length three.lent) began
     steps =
         exchanged longest_password y h.regular asked name random (length one.lent) (length three.lent)
-        (console-small c.begin) h.console h.level h.short h.username (random_sixteen c.opening) h.password h.room₁ h.room₃
+        (console_small c.begin) h.console h.level h.short h.username (random_sixteen c.opening) h.password h.room₁ h.room₃
 
-    begin-made : begin_of asked name (length request.lent) ≡ accept began
-    begin-made = begin-accepts asked name (length request.lent) h.console h.level h.short h.username h.room
+    begin_made : begin_of asked name (length request.lent) ≡ accept began
+    begin_made = begin_accepts asked name (length request.lent) h.console h.level h.short h.username h.room
 
     sent₀ : sent request ≡ began.bytes
-    sent₀ = made-sent _ began closed request c.begin.kept begin-made
+    sent₀ = made_sent _ began closed request c.begin.kept begin_made
 
     open_made : open_of c.opening.args.0 c.opening.args.1.0.now random (length one.lent) ≡ accept steps.answered
     open_made =
         ap₂ (λ (s : Record) (m : List ℕ). open_of s m random (length one.lent))
-        (c.open_record ∙ made-next _ began closed request c.begin.kept begin-made)
+        (c.open_record ∙ made_next _ began closed request c.begin.kept begin_made)
         (c.open_message ∙ ap (response y) sent₀)
-        ∙ steps.accepts-response
+        ∙ steps.accepts_response
 
     sent₁ : sent one ≡ steps.answered.bytes
-    sent₁ = made-sent _ steps.answered c.opening.args.0 one c.opening.kept open_made
+    sent₁ = made_sent _ steps.answered c.opening.args.0 one c.opening.kept open_made
 
     two_made : two_of longest_password c.message_2.args.0 c.message_2.args.1.0.now c.message_2.args.1.1.0.now
         c.message_2.args.1.1.1.0.now (length three.lent)
         ≡ accept steps.keyed
     two_made =
-        two-same (length three.lent)
-        (c.two_record ∙ made-next _ steps.answered c.opening.args.0 one c.opening.kept open_made)
+        two_same (length three.lent)
+        (c.two_record ∙ made_next _ steps.answered c.opening.args.0 one c.opening.kept open_made)
         c.two-kg
         c.two-password
         (c.two-message ∙ ap₂ (second y) sent₀ sent₁)
-        ∙ steps.accepts-two
+        ∙ steps.accepts_two
 
     sent₃ : sent three ≡ steps.keyed.bytes
-    sent₃ = made-sent _ steps.keyed c.message_2.args.0 three c.message_2.kept two_made
+    sent₃ = made_sent _ steps.keyed c.message_2.args.0 three c.message_2.kept two_made
 
     next₃ : c.message_2.answer.state ≡ steps.keyed.next
-    next₃ = made-next _ steps.keyed c.message_2.args.0 three c.message_2.kept two_made
+    next₃ = made_next _ steps.keyed c.message_2.args.0 three c.message_2.kept two_made
 
     -- the system's own message 4
     module _ (z : Ends c.message_2.answer.state (fourth y (sent request) (sent one) (sent three))) where
-      four-made : four_of z.message_4.args.0 z.message_4.args.1.0.now ≡ accept (record { next = opened steps.keyed.next; bytes = [] })
-      four-made =
-          ap₂ four_of (z.four_record ∙ next₃) (z.four-message ∙ fourth-same y sent₀ sent₁ sent₃)
-          ∙ steps.accepts-four
+      four_made : four_of z.message_4.args.0 z.message_4.args.1.0.now ≡ accept (record { next = opened steps.keyed.next; bytes = [] })
+      four_made =
+          ap₂ four_of (z.four_record ∙ next₃) (z.four_message ∙ fourth-same y sent₀ sent₁ sent₃)
+          ∙ steps.accepts_four
 
-      four-next : z.message_4.answer.state ≡ opened steps.keyed.next
-      four-next = z.message_4.kept.next ∙ ap (record_after z.message_4.args.0) four-made
+      four_next : z.message_4.answer.state ≡ opened steps.keyed.next
+      four_next = z.message_4.kept.next ∙ ap (record_after z.message_4.args.0) four_made
 
-      handed : (z.sub-state.answer.answer ≡ Done)
-          × (z.sub-state.answer.session ≡ session_with z.message_4.answer.state.keys z.message_4.answer.state.agreed)
+      handed : (z.sub_state.answer.answer ≡ Done)
+          × (z.sub_state.answer.session ≡ session_with z.message_4.answer.state.keys z.message_4.answer.state.agreed)
       unfolding opened
       handed =
           let h = is_in_step (opened steps.keyed.next) 4 refl steps.named in
-          session_open _ _ z.sub-state.answer z.session_record z.sub-state.kept (ap (λ (s : Record). in_step s 4) four-next ∙ h)
+          session_open _ _ z.sub_state.answer z.session_record z.sub_state.kept (ap (λ (s : Record). in_step s 4) four_next ∙ h)
 
-      pub exchange : Exchange y asked name random request one three z.message_4.answer z.sub-state.answer
+      pub exchange : Exchange y asked name random request one three z.message_4.answer z.sub_state.answer
       exchange =
-          let z₁ = opened-same y sent₀ sent₁ sent₃ four-next steps.opens in
+          let z₁ = opened-same y sent₀ sent₁ sent₃ four_next steps.opens in
           record {
-            begins = made-wrote _ began closed request c.begin.kept begin-made;
-            accepts-response = made-wrote _ steps.answered c.opening.args.0 one c.opening.kept open_made;
-            accepts-two = made-wrote _ steps.keyed c.message_2.args.0 three c.message_2.kept two_made;
-            hears = hears-same y sent₀ sent₁ sent₃ asked name random steps.hears;
-            accepts-four = outcome-one z.message_4.answer.answer Done (z.message_4.kept.answer ∙ ap done four-made);
-            writes_nothing = z.message_4.kept.len ∙ ap (λ (r : Res Made). length (written z.message_4.args.0 r)) four-made;
+            begins = made_wrote _ began closed request c.begin.kept begin_made;
+            accepts_response = made_wrote _ steps.answered c.opening.args.0 one c.opening.kept open_made;
+            accepts_two = made_wrote _ steps.keyed c.message_2.args.0 three c.message_2.kept two_made;
+            hears = hears_same y sent₀ sent₁ sent₃ asked name random steps.hears;
+            accepts_four = outcome_one z.message_4.answer.answer Done (z.message_4.kept.answer ∙ ap done four_made);
+            writes_nothing = z.message_4.kept.len ∙ ap (λ (r : Res Made). length (written z.message_4.args.0 r)) four_made;
             opens = z₁;
             establishes = handed.0;
             session = handed.1 ∙ ap₂ session_with z₁.keys z₁.agreed;
@@ -240,19 +240,19 @@ module _ (y : System) (c : Calls y) where
     module _ (x : List ℕ) (d : x ≡ value_in y (sent one) → ⊥) (z : Ends c.message_2.answer.state (head_to (sent request) (sent three) ++ x)) where
       four_stopped : four_of z.message_4.args.0 z.message_4.args.1.0.now ≡ refuse 32 0
       four_stopped =
-          ap₂ four_of (z.four_record ∙ next₃) (z.four-message ∙ ap₂ (λ (a b : List ℕ). head_to a b ++ x) sent₀ sent₃)
-          ∙ steps.refuses-other x (λ e. d (e ∙ ap (value_in y) (sym sent₁)))
+          ap₂ four_of (z.four_record ∙ next₃) (z.four_message ∙ ap₂ (λ (a b : List ℕ). head_to a b ++ x) sent₀ sent₃)
+          ∙ steps.refuses_other x (λ e. d (e ∙ ap (value_in y) (sym sent₁)))
 
-      four-closed : z.message_4.answer.state ≡ closed
-      four-closed = z.message_4.kept.next ∙ ap (record_after z.message_4.args.0) four_stopped
+      four_closed : z.message_4.answer.state ≡ closed
+      four_closed = z.message_4.kept.next ∙ ap (record_after z.message_4.args.0) four_stopped
 
-      pub exchange-refuses : Refuses z.message_4.answer z.sub-state.answer
-      exchange-refuses =
-          let n = session-none z.sub-state.args.0 z.sub-state.answer (z.session_record ∙ four-closed) z.sub-state.kept in
+      pub exchange_refuses : Refuses z.message_4.answer z.sub_state.answer
+      exchange_refuses =
+          let n = session_none z.sub_state.args.0 z.sub_state.answer (z.session_record ∙ four_closed) z.sub_state.kept in
           record {
             refuses = z.message_4.kept.answer ∙ ap done four_stopped;
             writes_nothing = z.message_4.kept.len ∙ ap (λ (r : Res Made). length (written z.message_4.args.0 r)) four_stopped;
-            closes = four-closed;
-            refuses-session = n.0;
+            closes = four_closed;
+            refuses_session = n.0;
             session = n.1;
           }

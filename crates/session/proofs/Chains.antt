@@ -8,7 +8,7 @@ use lib.Dec.{eqb, leb}
 use lib.ListN.{length}
 use borrow.Author.Tests.{le-leb, lt-leb, eq-eqb, ne_eqb, leb-true, eqb-true}
 use Rattle.refusal.specs.Order.{refuse, accept, need}
-use Rattle.refusal.proofs.Order.{pass, need-no, need_inv, then_refuse, then_accept, then_inv}
+use Rattle.refusal.proofs.Order.{pass, need_no, need_inv, then_refuse, then_accept, then_inv}
 use Rattle.messages.specs.Auth.{is_level, authentication_code, integrity_code, confidentiality_code}
 use Rattle.messages.specs.OpenSession.{level_byte, response_numbers, open_response}
 use Rattle.messages.specs.declared.open_session.RequestedPrivilege.{RequestedPrivilege}
@@ -48,38 +48,38 @@ in_len s k e = leb-true s.begun.username.len 16 (and_right (eqb (step_number s.s
 module _ (asked : Asked) where
   pub begin20 : asked.console ≡ 0 → refuse 20 0 ≡ ready_begin asked
   unfolding ready_begin
-  begin20 e = sym (need-no _ _ _ _ (ap not (eq-eqb _ 0 e)))
+  begin20 e = sym (need_no _ _ _ _ (ap not (eq-eqb _ 0 e)))
 
   module _ (d : asked.console ≡ 0 → ⊥) where
-    pub begin-none : asked.level ≡ None → accept tt ≡ ready_begin asked
+    pub begin_none : asked.level ≡ None → accept tt ≡ ready_begin asked
     unfolding ready_begin
-    begin-none e = sym (pass _ _ _ _ (ap not (ne_eqb _ 0 d)) (pass _ _ _ _ (ap level_allowed e) refl))
+    begin_none e = sym (pass _ _ _ _ (ap not (ne_eqb _ 0 d)) (pass _ _ _ _ (ap level_allowed e) refl))
 
-    pub begin-level : (b : ℕ) → asked.level ≡ Level b → true ≡ is_level b → accept tt ≡ ready_begin asked
+    pub begin_level : (b : ℕ) → asked.level ≡ Level b → true ≡ is_level b → accept tt ≡ ready_begin asked
     unfolding ready_begin
-    begin-level b e f = sym (pass _ _ _ _ (ap not (ne_eqb _ 0 d)) (pass _ _ _ _ (ap level_allowed e ∙ sym f) refl))
+    begin_level b e f = sym (pass _ _ _ _ (ap not (ne_eqb _ 0 d)) (pass _ _ _ _ (ap level_allowed e ∙ sym f) refl))
 
     pub begin19 : (b : ℕ) → asked.level ≡ Level b → false ≡ is_level b → refuse 19 b ≡ ready_begin asked
     unfolding ready_begin
     begin19 b e f =
         sym
         (pass _ _ _ _ (ap not (ne_eqb _ 0 d))
-        (need-no _ _ _ _ (ap level_allowed e ∙ sym f) ∙ ap (λ (l : RequestedPrivilege). refuse 19 (level_byte l)) e))
+        (need_no _ _ _ _ (ap level_allowed e ∙ sym f) ∙ ap (λ (l : RequestedPrivilege). refuse 19 (level_byte l)) e))
 
   -- what is known of the level once they passed
-  pub begin-known : ready_begin asked ≡ accept tt → level_allowed asked.level ≡ true
+  pub begin_known : ready_begin asked ≡ accept tt → level_allowed asked.level ≡ true
   unfolding ready_begin
-  begin-known e = (need_inv _ _ _ _ (need_inv _ _ _ _ e).1).0
+  begin_known e = (need_inv _ _ _ _ (need_inv _ _ _ _ e).1).0
 
 -- before the open response is looked at
 module _ (s : Record) (room : ℕ) where
   pub open33 : in_step s 1 ≡ false → refuse 33 0 ≡ ready_open s room
   unfolding ready_open
-  open33 e = sym (need-no _ _ _ _ e)
+  open33 e = sym (need_no _ _ _ _ e)
 
   pub open15 : in_step s 1 ≡ true → room < one_size s.begun.username.len → refuse 15 0 ≡ ready_open s room
   unfolding ready_open
-  open15 e h = sym (pass _ _ _ _ e (need-no _ _ _ _ (lt-leb _ _ h)))
+  open15 e h = sym (pass _ _ _ _ e (need_no _ _ _ _ (lt-leb _ _ h)))
 
   pub open_ready : in_step s 1 ≡ true → one_size s.begun.username.len ≤ room → accept tt ≡ ready_open s room
   unfolding ready_open
@@ -94,9 +94,9 @@ module _ (s : Record) (room : ℕ) where
 
 -- the algorithms that are carried
 module _ (r : OpenSessionResponse) where
-  pub carried-auth : (authentication_code r.authentication ≡ 1 → ⊥) → false ≡ carried (response_numbers r)
+  pub carried_auth : (authentication_code r.authentication ≡ 1 → ⊥) → false ≡ carried (response_numbers r)
   unfolding carried response_numbers
-  carried-auth d = sym (ap (λ (t : Bool). t && (leb (integrity_code r.integrity) 1 && leb (confidentiality_code r.confidentiality) 1)) (ne_eqb _ 1 d))
+  carried_auth d = sym (ap (λ (t : Bool). t && (leb (integrity_code r.integrity) 1 && leb (confidentiality_code r.confidentiality) 1)) (ne_eqb _ 1 d))
 
   pub carried_integ : authentication_code r.authentication ≡ 1 → 1 < integrity_code r.integrity → false ≡ carried (response_numbers r)
   unfolding carried response_numbers
@@ -109,106 +109,106 @@ module _ (r : OpenSessionResponse) where
 
 -- the open response
 module _ (s : Record) (m : List ℕ) where
-  pub heard_open-refused : (n v : ℕ) → open_response m ≡ refuse n v → refuse n v ≡ heard_open s m
+  pub heard_open_refused : (n v : ℕ) → open_response m ≡ refuse n v → refuse n v ≡ heard_open s m
   unfolding heard_open
-  heard_open-refused n v e = sym (then_refuse _ _ n v e)
+  heard_open_refused n v e = sym (then_refuse _ _ n v e)
 
   module _ (r : OpenSessionResponse) (e : open_response m ≡ accept (response_numbers r)) where
-    heard_open-order : heard_open s m
+    heard_open_order : heard_open s m
         ≡ need (eqb r.tag open_tag) 27 0
         (need (eqb r.console s.begun.console) 28 0
         (need (carried (response_numbers r)) 29 0
         (accept (response_numbers r))))
     unfolding heard_open response_numbers
-    heard_open-order = then_accept _ _ _ e
+    heard_open_order = then_accept _ _ _ e
 
     pub open27 : (r.tag ≡ open_tag → ⊥) → refuse 27 0 ≡ heard_open s m
-    open27 d = sym (heard_open-order ∙ need-no _ _ _ _ (ne_eqb _ _ d))
+    open27 d = sym (heard_open_order ∙ need_no _ _ _ _ (ne_eqb _ _ d))
 
     module _ (t : r.tag ≡ open_tag) where
       pub open28 : (r.console ≡ s.begun.console → ⊥) → refuse 28 0 ≡ heard_open s m
-      open28 d = sym (heard_open-order ∙ pass _ _ _ _ (eq-eqb _ _ t) (need-no _ _ _ _ (ne_eqb _ _ d)))
+      open28 d = sym (heard_open_order ∙ pass _ _ _ _ (eq-eqb _ _ t) (need_no _ _ _ _ (ne_eqb _ _ d)))
 
       module _ (c : r.console ≡ s.begun.console) where
         pub open29 : carried (response_numbers r) ≡ false → refuse 29 0 ≡ heard_open s m
-        open29 d = sym (heard_open-order ∙ pass _ _ _ _ (eq-eqb _ _ t) (pass _ _ _ _ (eq-eqb _ _ c) (need-no _ _ _ _ d)))
+        open29 d = sym (heard_open_order ∙ pass _ _ _ _ (eq-eqb _ _ t) (pass _ _ _ _ (eq-eqb _ _ c) (need_no _ _ _ _ d)))
 
         pub open_heard : carried (response_numbers r) ≡ true → accept (response_numbers r) ≡ heard_open s m
-        open_heard d = sym (heard_open-order ∙ pass _ _ _ _ (eq-eqb _ _ t) (pass _ _ _ _ (eq-eqb _ _ c) (pass _ _ _ _ d refl)))
+        open_heard d = sym (heard_open_order ∙ pass _ _ _ _ (eq-eqb _ _ t) (pass _ _ _ _ (eq-eqb _ _ c) (pass _ _ _ _ d refl)))
 
 -- before message 2 is looked at
 module _ (most : ℕ) (s : Record) (kg password : List ℕ) (room : ℕ) where
   pub two33 : in_step s 2 ≡ false → refuse 33 0 ≡ ready_two most s kg password room
   unfolding ready_two
-  two33 e = sym (need-no _ _ _ _ e)
+  two33 e = sym (need_no _ _ _ _ e)
 
   module _ (e : in_step s 2 ≡ true) where
     pub two35 : legal_kg (length kg) ≡ false → refuse 35 0 ≡ ready_two most s kg password room
     unfolding ready_two
-    two35 f = sym (pass _ _ _ _ e (need-no _ _ _ _ f))
+    two35 f = sym (pass _ _ _ _ e (need_no _ _ _ _ f))
 
     module _ (f : legal_kg (length kg) ≡ true) where
       pub two36 : most < length password → refuse 36 0 ≡ ready_two most s kg password room
       unfolding ready_two
-      two36 h = sym (pass _ _ _ _ e (pass _ _ _ _ f (need-no _ _ _ _ (lt-leb _ _ h))))
+      two36 h = sym (pass _ _ _ _ e (pass _ _ _ _ f (need_no _ _ _ _ (lt-leb _ _ h))))
 
       pub two15 : length password ≤ most → room < three_size → refuse 15 0 ≡ ready_two most s kg password room
       unfolding ready_two
-      two15 g h = sym (pass _ _ _ _ e (pass _ _ _ _ f (pass _ _ _ _ (le-leb _ _ g) (need-no _ _ _ _ (lt-leb _ _ h)))))
+      two15 g h = sym (pass _ _ _ _ e (pass _ _ _ _ f (pass _ _ _ _ (le-leb _ _ g) (need_no _ _ _ _ (lt-leb _ _ h)))))
 
       pub two_ready : length password ≤ most → three_size ≤ room → accept tt ≡ ready_two most s kg password room
       unfolding ready_two
       two_ready g h = sym (pass _ _ _ _ e (pass _ _ _ _ f (pass _ _ _ _ (le-leb _ _ g) (pass _ _ _ _ (le-leb _ _ h) refl))))
 
-  legal-short : legal_kg (length kg) ≡ true → length kg ≤ kg_size
-  legal-short e = by (eqb (length kg) 0) (eqb (length kg) kg_size) refl refl e
+  legal_short : legal_kg (length kg) ≡ true → length kg ≤ kg_size
+  legal_short e = by (eqb (length kg) 0) (eqb (length kg) kg_size) refl refl e
     where
       by : (a b : Bool) → eqb (length kg) 0 ≡ a → eqb (length kg) kg_size ≡ b → (a || b) ≡ true → length kg ≤ kg_size
       by true b p q h = omega (arith, eqb-true (length kg) 0 p)
       by false true p q h = omega (arith, eqb-true (length kg) kg_size q)
       by false false p q h = absurd (false≢true h)
 
-  pub two-known : ready_two most s kg password room ≡ accept tt → (length kg ≤ kg_size) × (length password ≤ most) × (three_size ≤ room)
+  pub two_known : ready_two most s kg password room ≡ accept tt → (length kg ≤ kg_size) × (length password ≤ most) × (three_size ≤ room)
   unfolding ready_two
-  two-known e =
+  two_known e =
       let t = need_inv _ _ _ _ e in
       let u = need_inv _ _ _ _ t.1 in
       let v = need_inv _ _ _ _ u.1 in
       let w = need_inv _ _ _ _ v.1 in
-      (legal-short u.0, leb-true _ _ v.0, leb-true _ _ w.0)
+      (legal_short u.0, leb-true _ _ v.0, leb-true _ _ w.0)
 
 -- message 2
 module _ (s : Record) (m : List ℕ) where
-  pub heard_two-refused : (n v : ℕ) → message2 m ≡ refuse n v → heard_two s m ≡ refuse n v
+  pub heard_two_refused : (n v : ℕ) → message2 m ≡ refuse n v → heard_two s m ≡ refuse n v
   unfolding heard_two
-  heard_two-refused n v e = then_refuse _ _ n v e
+  heard_two_refused n v e = then_refuse _ _ n v e
 
   module _ (f : RakpMessage2) (e : message2 m ≡ accept f) where
-    heard_two-order : heard_two s m
+    heard_two_order : heard_two s m
         ≡ need (eqb f.tag tag1) 27 0
         (need (eqb f.console s.begun.console) 28 0
         (need (eqb f.code.len code_size) 30 0
         (accept f)))
     unfolding heard_two
-    heard_two-order = then_accept _ _ f e
+    heard_two_order = then_accept _ _ f e
 
     pub two27 : (f.tag ≡ tag1 → ⊥) → heard_two s m ≡ refuse 27 0
-    two27 d = heard_two-order ∙ need-no _ _ _ _ (ne_eqb _ _ d)
+    two27 d = heard_two_order ∙ need_no _ _ _ _ (ne_eqb _ _ d)
 
     module _ (t : f.tag ≡ tag1) where
       pub two28 : (f.console ≡ s.begun.console → ⊥) → heard_two s m ≡ refuse 28 0
-      two28 d = heard_two-order ∙ pass _ _ _ _ (eq-eqb _ _ t) (need-no _ _ _ _ (ne_eqb _ _ d))
+      two28 d = heard_two_order ∙ pass _ _ _ _ (eq-eqb _ _ t) (need_no _ _ _ _ (ne_eqb _ _ d))
 
       module _ (c : f.console ≡ s.begun.console) where
         pub two30 : (f.code.len ≡ code_size → ⊥) → heard_two s m ≡ refuse 30 0
-        two30 d = heard_two-order ∙ pass _ _ _ _ (eq-eqb _ _ t) (pass _ _ _ _ (eq-eqb _ _ c) (need-no _ _ _ _ (ne_eqb _ _ d)))
+        two30 d = heard_two_order ∙ pass _ _ _ _ (eq-eqb _ _ t) (pass _ _ _ _ (eq-eqb _ _ c) (need_no _ _ _ _ (ne_eqb _ _ d)))
 
         pub two_heard : f.code.len ≡ code_size → heard_two s m ≡ accept f
-        two_heard d = heard_two-order ∙ pass _ _ _ _ (eq-eqb _ _ t) (pass _ _ _ _ (eq-eqb _ _ c) (pass _ _ _ _ (eq-eqb _ _ d) refl))
+        two_heard d = heard_two_order ∙ pass _ _ _ _ (eq-eqb _ _ t) (pass _ _ _ _ (eq-eqb _ _ c) (pass _ _ _ _ (eq-eqb _ _ d) refl))
 
-  pub two-found : (f : RakpMessage2) → heard_two s m ≡ accept f → message2 m ≡ accept f
+  pub two_found : (f : RakpMessage2) → heard_two s m ≡ accept f → message2 m ≡ accept f
   unfolding heard_two
-  two-found f e =
+  two_found f e =
       let g = then_inv (message2 m) _ f e in
       let t = need_inv _ _ _ _ g.2 in
       let u = need_inv _ _ _ _ t.1 in
@@ -218,36 +218,36 @@ module _ (s : Record) (m : List ℕ) where
 -- message 4
 pub four33 : (s : Record) → in_step s 3 ≡ false → ready_four s ≡ refuse 33 0
 unfolding ready_four
-four33 s e = need-no _ _ _ _ e
+four33 s e = need_no _ _ _ _ e
 
 pub four_ready : (s : Record) → in_step s 3 ≡ true → ready_four s ≡ accept tt
 unfolding ready_four
 four_ready s e = pass _ _ _ _ e refl
 
 module _ (s : Record) (m : List ℕ) where
-  pub heard_four-refused : (n v : ℕ) → message4 m ≡ refuse n v → heard_four s m ≡ refuse n v
+  pub heard_four_refused : (n v : ℕ) → message4 m ≡ refuse n v → heard_four s m ≡ refuse n v
   unfolding heard_four
-  heard_four-refused n v e = then_refuse _ _ n v e
+  heard_four_refused n v e = then_refuse _ _ n v e
 
   module _ (f : RakpMessage4) (e : message4 m ≡ accept f) where
-    heard_four-order : heard_four s m
+    heard_four_order : heard_four s m
         ≡ need (eqb f.tag tag3) 27 0
         (need (eqb f.id s.begun.console) 28 0
         (need (same (drop f.value.at m) (value_four s)) 32 0
         (accept f)))
     unfolding heard_four
-    heard_four-order = then_accept _ _ f e
+    heard_four_order = then_accept _ _ f e
 
     pub four27 : (f.tag ≡ tag3 → ⊥) → heard_four s m ≡ refuse 27 0
-    four27 d = heard_four-order ∙ need-no _ _ _ _ (ne_eqb _ _ d)
+    four27 d = heard_four_order ∙ need_no _ _ _ _ (ne_eqb _ _ d)
 
     module _ (t : f.tag ≡ tag3) where
       pub four28 : (f.id ≡ s.begun.console → ⊥) → heard_four s m ≡ refuse 28 0
-      four28 d = heard_four-order ∙ pass _ _ _ _ (eq-eqb _ _ t) (need-no _ _ _ _ (ne_eqb _ _ d))
+      four28 d = heard_four_order ∙ pass _ _ _ _ (eq-eqb _ _ t) (need_no _ _ _ _ (ne_eqb _ _ d))
 
       module _ (c : f.id ≡ s.begun.console) where
         pub four32 : same (drop f.value.at m) (value_four s) ≡ false → heard_four s m ≡ refuse 32 0
-        four32 d = heard_four-order ∙ pass _ _ _ _ (eq-eqb _ _ t) (pass _ _ _ _ (eq-eqb _ _ c) (need-no _ _ _ _ d))
+        four32 d = heard_four_order ∙ pass _ _ _ _ (eq-eqb _ _ t) (pass _ _ _ _ (eq-eqb _ _ c) (need_no _ _ _ _ d))
 
         pub four_heard : same (drop f.value.at m) (value_four s) ≡ true → heard_four s m ≡ accept f
-        four_heard d = heard_four-order ∙ pass _ _ _ _ (eq-eqb _ _ t) (pass _ _ _ _ (eq-eqb _ _ c) (pass _ _ _ _ d refl))
+        four_heard d = heard_four_order ∙ pass _ _ _ _ (eq-eqb _ _ t) (pass _ _ _ _ (eq-eqb _ _ c) (pass _ _ _ _ d refl))

@@ -7,7 +7,7 @@ use mathlib.Core.Path.{◌≡◌, refl, sym, ◌∙◌, ap, ap₂}
 use lib.ListN.{length, get_or, drop}
 use Rattle.refusal.specs.Order.{refuse, accept}
 use Rattle.sha1_hmac.specs.Hash.{hmac_sha1}
-use Rattle.sha1_hmac.proofs.Laws.{mac-length}
+use Rattle.sha1_hmac.proofs.Laws.{mac_length}
 use Rattle.keys.specs.Codes.{role_name, code2, code3}
 use Rattle.keys.specs.Keys.{keys_of}
 use Rattle.messages.specs.Name.{allowed, stored}
@@ -15,7 +15,7 @@ use Rattle.messages.specs.OpenSession.{Response, open_response}
 use Rattle.messages.specs.Rakp.{message1, message2, message4}
 use Rattle.messages.specs.declared.rakp_1.RakpMessage1.{RakpMessage1}
 use Rattle.messages.specs.declared.rakp_2.RakpMessage2.{RakpMessage2}
-use Rattle.messages.proofs.Names.{stored-whole}
+use Rattle.messages.proofs.Names.{stored_whole}
 use Rattle.session.specs.Constants.{open_tag, tag1, tag3, code_size, one_size, three_size}
 use Rattle.session.specs.Role.{role_asked}
 use Rattle.session.specs.Record.{step_number, begun_of, begun_with, agreed_of, answered, keyed, opened}
@@ -26,10 +26,10 @@ use Rattle.session.specs.System.{second, sik_in, keys_in, agreed_in, value_in, f
 use Rattle.session.specs.Exchange.{Hears, Opened}
 use Rattle.session.specs.declared.Asked.{Asked}
 use Rattle.session.specs.declared.Record.{Record}
-use Rattle.session.proofs.Role.{role-legal, role-short}
-use Rattle.session.proofs.Accepting.{is_in_step, are_carried, open_accepts, two-accepts, four-accepts, four-refuses}
-use Rattle.session.proofs.Heard.{response_bytes, response_says, response_heard, two_bytes, two_says, two-code, two_heard, four_bytes, four_says, four_heard}
-use Rattle.session.proofs.Heard.{request-tag, request_sidm, request-level, request-taken, one_tag, one_rm, one-who, one-taken, three-tag, three-taken}
+use Rattle.session.proofs.Role.{role_legal, role_short}
+use Rattle.session.proofs.Accepting.{is_in_step, are_carried, open_accepts, two_accepts, four_accepts, four_refuses}
+use Rattle.session.proofs.Heard.{response_bytes, response_says, response_heard, two_bytes, two_says, two_code, two_heard, four_bytes, four_says, four_heard}
+use Rattle.session.proofs.Heard.{request_tag, request_sidm, request_level, request_taken, one_tag, one_rm, one_who, one_taken, three_tag, three_taken}
 
 -- messages 2 to 4, from a console that has taken the response: its record s, and what the system has heard by then
 module _ (y : System) (r : Regular y) (s : Record) (request one : List ℕ) (a : s.begun.console < 2 ^ 32) (b : s.begun.console ≡ 0 → ⊥)
@@ -41,7 +41,7 @@ module _ (y : System) (r : Regular y) (s : Record) (request one : List ℕ) (a :
 
   code_in-length : length (code_in y request one) ≡ code_size
   unfolding code_in
-  code_in-length = mac-length _ _
+  code_in-length = mac_length _ _
 
   code_agrees : code_in y request one ≡ code_two s y.password said
   unfolding code_in code_two
@@ -53,13 +53,13 @@ module _ (y : System) (r : Regular y) (s : Record) (request one : List ℕ) (a :
   unfolding second
   second_is = ap₂ (λ (t x : ℕ). two_bytes t x y.random y.guid (code_in y request one)) g i
 
-  two-taken : (most room : ℕ) → step_number s.step ≡ 2 → length y.password ≤ most → three_size ≤ room
+  two_taken : (most room : ℕ) → step_number s.step ≡ 2 → length y.password ≤ most → three_size ≤ room
       → two_of most s y.kg y.password (second y request one) room ≡ accept (made_two s y.kg y.password said)
-  two-taken most room e p h =
-      two-accepts most s y.kg y.password (second y request one) room said (is_in_step s 2 e w) r.kg p h
+  two_taken most room e p h =
+      two_accepts most s y.kg y.password (second y request one) room said (is_in_step s 2 e w) r.kg p h
       (ap message2 second_is ∙ two_heard tag1 s.begun.console y.random y.guid _ a b r.random r.guid code_in-length)
       refl refl refl
-      (ap (drop 40) second_is ∙ two-code tag1 s.begun.console y.random y.guid _ a b r.random r.guid code_in-length ∙ code_agrees)
+      (ap (drop 40) second_is ∙ two_code tag1 s.begun.console y.random y.guid _ a b r.random r.guid code_in-length ∙ code_agrees)
 
   sik_agrees : sik_two s y.kg y.password said ≡ sik_in y one
   unfolding sik_two sik_in
@@ -69,9 +69,9 @@ module _ (y : System) (r : Regular y) (s : Record) (request one : List ℕ) (a :
   unfolding code_three
   three_agrees = rw (i, v)
 
-  takes-three : TakesThree y request one (made_two s y.kg y.password said).bytes
+  takes_three : TakesThree y request one (made_two s y.kg y.password said).bytes
   unfolding made_two code_three
-  takes-three = three-taken _ _ y request one j (rw j r.small) (mac-length _ _) three_agrees
+  takes_three = three_taken _ _ y request one j (rw j r.small) (mac_length _ _) three_agrees
 
   -- the console's record at message 4
   abbrev checking : Record
@@ -85,18 +85,18 @@ module _ (y : System) (r : Regular y) (s : Record) (request one : List ℕ) (a :
     fourth_is : head_to request three ++ x ≡ four_bytes tag3 s.begun.console x
     fourth_is = ap₂ (λ (c d : ℕ). four_bytes c d x) t i
 
-    four-read : message4 (head_to request three ++ x) ≡ accept (four_says tag3 s.begun.console x)
-    four-read = ap message4 fourth_is ∙ four_heard tag3 s.begun.console x a b
+    four_read : message4 (head_to request three ++ x) ≡ accept (four_says tag3 s.begun.console x)
+    four_read = ap message4 fourth_is ∙ four_heard tag3 s.begun.console x a b
 
-    four-taken : x ≡ value_in y one → four_of checking (head_to request three ++ x) ≡ accept (record { next = opened checking; bytes = [] })
+    four_taken : x ≡ value_in y one → four_of checking (head_to request three ++ x) ≡ accept (record { next = opened checking; bytes = [] })
     unfolding keyed
-    four-taken e =
-        four-accepts checking _ (four_says tag3 s.begun.console x) (is_in_step checking 3 refl w) four-read refl refl (e ∙ sym value_agrees)
+    four_taken e =
+        four_accepts checking _ (four_says tag3 s.begun.console x) (is_in_step checking 3 refl w) four_read refl refl (e ∙ sym value_agrees)
 
-    four-refused : (x ≡ value_in y one → ⊥) → four_of checking (head_to request three ++ x) ≡ refuse 32 0
+    four_refused : (x ≡ value_in y one → ⊥) → four_of checking (head_to request three ++ x) ≡ refuse 32 0
     unfolding keyed
-    four-refused d =
-        four-refuses checking _ (four_says tag3 s.begun.console x) (is_in_step checking 3 refl w) four-read refl refl
+    four_refused d =
+        four_refuses checking _ (four_says tag3 s.begun.console x) (is_in_step checking 3 refl w) four_read refl refl
         (λ e. d (e ∙ value_agrees))
 
 -- what the steps make of one another's messages, from what Begin made
@@ -104,11 +104,11 @@ pub record StepsAgree (most : ℕ) (y : System) (asked : Asked) (n rm : List ℕ
   pub answered : Made
   pub keyed : Made
   pub hears : Hears y asked n rm began.bytes answered.bytes keyed.bytes
-  pub accepts-response : open_of began.next (response y began.bytes) rm room₁ ≡ accept answered
-  pub accepts-two : two_of most answered.next y.kg y.password (second y began.bytes answered.bytes) room₃ ≡ accept keyed
-  pub accepts-four : four_of keyed.next (fourth y began.bytes answered.bytes keyed.bytes)
+  pub accepts_response : open_of began.next (response y began.bytes) rm room₁ ≡ accept answered
+  pub accepts_two : two_of most answered.next y.kg y.password (second y began.bytes answered.bytes) room₃ ≡ accept keyed
+  pub accepts_four : four_of keyed.next (fourth y began.bytes answered.bytes keyed.bytes)
       ≡ accept (record { next = opened keyed.next; bytes = [] })
-  pub refuses-other : (x : List ℕ) → (x ≡ value_in y answered.bytes → ⊥)
+  pub refuses_other : (x : List ℕ) → (x ≡ value_in y answered.bytes → ⊥)
       → four_of keyed.next (head_to began.bytes keyed.bytes ++ x) ≡ refuse 32 0
   pub named : keyed.next.begun.username.len ≤ 16
   pub opens : Opened y answered.bytes (opened keyed.next)
@@ -132,7 +132,7 @@ module _ (most : ℕ) (y : System) (r : Regular y) (asked : Asked) (n rm : List 
   response_is : response y request ≡ response_bytes open_tag y.level asked.console y.id y.integrity y.confidentiality
   unfolding response
   response_is =
-      ap₂ (λ (t x : ℕ). response_bytes t y.level x y.id y.integrity y.confidentiality) (request-tag asked) (request_sidm asked a)
+      ap₂ (λ (t x : ℕ). response_bytes t y.level x y.id y.integrity y.confidentiality) (request_tag asked) (request_sidm asked a)
 
   open_taken : open_of (begun_with (begun_of asked (stored n))) (response y request) rm room₁
       ≡ accept (made_open (begun_with (begun_of asked (stored n))) rm says)
@@ -146,7 +146,7 @@ module _ (most : ℕ) (y : System) (r : Regular y) (asked : Asked) (n rm : List 
 
   who_agrees : who_in (message1 first) ≡ who waiting
   unfolding who answered begun_with begun_of
-  who_agrees = one-who first k
+  who_agrees = one_who first k
 
   abbrev proving : Made
   proving = made_two waiting y.kg y.password (two_says tag1 asked.console y.random y.guid)
@@ -154,8 +154,8 @@ module _ (most : ℕ) (y : System) (r : Regular y) (asked : Asked) (n rm : List 
   takes_one : TakesOne y (message1 first)
   unfolding begun_with begun_of
   takes_one =
-      one-taken first k y refl r.small (role-legal asked.level d asked.lookup) (role-short asked.level d asked.lookup)
-      (rw (stored-whole n) l) (rw (stored-whole n) c)
+      one_taken first k y refl r.small (role_legal asked.level d asked.lookup) (role_short asked.level d asked.lookup)
+      (rw (stored_whole n) l) (rw (stored_whole n) c)
 
   pub exchanged : StepsAgree most y asked n rm room₁ room₃ (made_begin asked (stored n))
   unfolding made_begin made_open made_two answered begun_with begun_of agreed_of agreed_in keyed opened keys_in fourth stored
@@ -170,18 +170,18 @@ module _ (most : ℕ) (y : System) (r : Regular y) (asked : Asked) (n rm : List 
         answered = made_open (begun_with (begun_of asked (stored n))) rm says;
         keyed = proving;
         hears = record {
-          takes-request = request-taken asked a b d;
-          level = request-level asked;
+          takes_request = request_taken asked a b d;
+          level = request_level asked;
           console = i;
           takes_one = takes_one;
           random = u;
-          who = one-who first k ∙ ap (role_name (role_asked asked)) (stored-whole n);
-          takes-three = takes-three y r waiting request one a b l i refl g u v;
+          who = one_who first k ∙ ap (role_name (role_asked asked)) (stored_whole n);
+          takes_three = takes_three y r waiting request one a b l i refl g u v;
         };
-        accepts-response = open_taken;
-        accepts-two = two-taken y r waiting request one a b l i refl g u v most room₃ refl p h₃;
-        accepts-four = four-taken y r waiting request one a b l i refl g u v proving.bytes (three-tag _ _) (value_in y one) refl;
-        refuses-other = (λ x. four-refused y r waiting request one a b l i refl g u v proving.bytes (three-tag _ _) x);
+        accepts_response = open_taken;
+        accepts_two = two_taken y r waiting request one a b l i refl g u v most room₃ refl p h₃;
+        accepts_four = four_taken y r waiting request one a b l i refl g u v proving.bytes (three_tag _ _) (value_in y one) refl;
+        refuses_other = (λ x. four_refused y r waiting request one a b l i refl g u v proving.bytes (three_tag _ _) x);
         named = l;
         opens = record { step = refl; system = refl; agreed = refl; keys = ap keys_of e };
       }

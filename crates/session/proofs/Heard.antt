@@ -27,17 +27,17 @@ use Rattle.messages.specs.declared.rakp_1.RakpMessage1.{RakpMessage1}
 use Rattle.messages.specs.declared.rakp_2.RakpMessage2.{RakpMessage2}
 use Rattle.messages.specs.declared.rakp_3.RakpMessage3.{RakpMessage3}
 use Rattle.messages.specs.declared.rakp_4.RakpMessage4.{RakpMessage4}
-use Rattle.messages.proofs.Opening.{fields-all, open_passed}
-use Rattle.messages.proofs.Tests.{checked-passed}
+use Rattle.messages.proofs.Opening.{fields_all, open_passed}
+use Rattle.messages.proofs.Tests.{checked_passed}
 use Rattle.session.specs.Constants.{open_tag, code_size}
 use Rattle.session.specs.Steps.{level_allowed, request_of}
 use Rattle.session.specs.System.{System, level_in, sidm_in, rm_in, role_in, name_size_in, name_in, who_in, TakesRequest, TakesOne, TakesThree}
 use Rattle.session.specs.declared.Asked.{Asked}
-use Rattle.session.proofs.Role.{level-most}
+use Rattle.session.proofs.Role.{level_most}
 
 -- an id comes back from its four bytes
-id-back : (n : ℕ) → n < 2 ^ 32 → unle (le 4 n) ≡ n
-id-back n h = unle-le 4 n h
+id_back : (n : ℕ) → n < 2 ^ 32 → unle (le 4 n) ≡ n
+id_back n h = unle-le 4 n h
 
 -- a block that is written in the place of its type
 of_type-block_bytes : (t c : ℕ) → leb t 2 ≡ true → leb c (last_code t) ≡ true → of_type t (block_of (block_bytes t c)) ≡ accept c
@@ -61,12 +61,12 @@ module _ (tag level own id i c : ℕ) (a : own < 2 ^ 32) (b : own ≡ 0 → ⊥)
   unfolding open_response open_numbers
   response_heard =
       let m : List ℕ = response_bytes tag level own id i c in
-      let x = id-back own a in
-      let y = id-back id p in
+      let x = id_back own a in
+      let y = id_back id p in
       let n : Response = response_says tag level (unle (le 4 own)) (unle (le 4 id)) i c in
       then_accept _ _ tt (sym (open_passed m (omega arith) refl refl (is_level level) refl l (λ z. b (sym x ∙ z)) (λ z. q (sym y ∙ z))))
       ∙ sym
-      (fields-all m 1 (of_type-block_bytes 0 1 refl refl) i (of_type-block_bytes 1 i refl (le-leb i 4 (omega arith))) c n
+      (fields_all m 1 (of_type-block_bytes 0 1 refl refl) i (of_type-block_bytes 1 i refl (le-leb i 4 (omega arith))) c n
       (of_type-block_bytes 2 c refl (le-leb c 3 (omega arith))) refl)
       ∙ ap₂ (λ (u v : ℕ). accept (response_says tag level u v i c)) x y
 
@@ -82,34 +82,34 @@ module _ (tag own : ℕ) (rc guid code : List ℕ) (a : own < 2 ^ 32) (b : own �
   abbrev two : List ℕ
   two = two_bytes tag own rc guid code
 
-  two-length : length two ≡ 40 + code_size
-  two-length = simp length-append (omega arith)
+  two_length : length two ≡ 40 + code_size
+  two_length = simp length-append (omega arith)
 
-  two-random : part two 8 16 ≡ rc
-  two-random = ap (take 16) (append_assoc rc guid code) ∙ take_at rc (guid ++ code) 16 d
+  two_random : part two 8 16 ≡ rc
+  two_random = ap (take 16) (append_assoc rc guid code) ∙ take_at rc (guid ++ code) 16 d
 
-  two-guid : part two 24 16 ≡ guid
-  two-guid =
+  two_guid : part two 24 16 ≡ guid
+  two_guid =
       ap (λ (l : List ℕ). part l 16 16) (append_assoc rc guid code)
       ∙ ap (take 16) (drop_at rc (guid ++ code) 16 d)
       ∙ take_at guid code 16 e
 
-  pub two-code : drop 40 two ≡ code
-  two-code = let n : length (rc ++ guid) ≡ 32 = simp length-append (omega arith) in drop_at (rc ++ guid) code 32 n
+  pub two_code : drop 40 two ≡ code
+  two_code = let n : length (rc ++ guid) ≡ 32 = simp length-append (omega arith) in drop_at (rc ++ guid) code 32 n
 
   two_fields : fields2 two ≡ two_says tag own rc guid
   unfolding fields2
   two_fields =
-      let n = two-length in
+      let n = two_length in
       let w : length two - 40 ≡ code_size = omega arith in
-      rw (id-back own a, two-random, two-guid, w)
+      rw (id_back own a, two_random, two_guid, w)
 
   pub two_heard : message2 two ≡ accept (two_says tag own rc guid)
   unfolding message2
   two_heard =
-      let n = two-length in
-      let x = id-back own a in
-      then_accept _ _ tt (sym (checked-passed _ 40 20 0 two (omega arith) refl (omega arith) (λ z. b (sym x ∙ z)))) ∙ ap accept two_fields
+      let n = two_length in
+      let x = id_back own a in
+      then_accept _ _ tt (sym (checked_passed _ 40 20 0 two (omega arith) refl (omega arith) (λ z. b (sym x ∙ z)))) ∙ ap accept two_fields
 
 -- message 4
 abbrev pub four_bytes : ℕ → ℕ → List ℕ → List ℕ
@@ -122,35 +122,35 @@ pub four_heard : (tag own : ℕ) (value : List ℕ) → own < 2 ^ 32 → (own �
     → message4 (four_bytes tag own value) ≡ accept (four_says tag own value)
 unfolding message4 fields4
 four_heard tag own value a b =
-    let x = id-back own a in
+    let x = id_back own a in
     let m : List ℕ = four_bytes tag own value in
-    then_accept _ _ tt (sym (checked-passed _ 8 21 0 m (omega arith) refl (omega arith) (λ z. b (sym x ∙ z))))
+    then_accept _ _ tt (sym (checked_passed _ 8 21 0 m (omega arith) refl (omega arith) (λ z. b (sym x ∙ z))))
     ∙ rw x
 
 -- what the system reads: the request, which it takes
-pub request-tag : (asked : Asked) → get_or (request_of asked) 0 0 ≡ open_tag
+pub request_tag : (asked : Asked) → get_or (request_of asked) 0 0 ≡ open_tag
 unfolding request_of open_request
-request-tag asked = refl
+request_tag asked = refl
 
 pub request_sidm : (asked : Asked) → asked.console < 2 ^ 32 → sidm_in (request_of asked) ≡ asked.console
 unfolding sidm_in request_of open_request
-request_sidm asked h = id-back asked.console h
+request_sidm asked h = id_back asked.console h
 
-pub request-level : (asked : Asked) → level_in (request_of asked) ≡ level_byte asked.level
+pub request_level : (asked : Asked) → level_in (request_of asked) ≡ level_byte asked.level
 unfolding request_of open_request
-request-level asked = refl
+request_level asked = refl
 
-level-short : (l : RequestedPrivilege) → level_allowed l ≡ true → level_byte l ≤ 5
-level-short None h = omega arith
-level-short (Level b) h = level-most b h
+level_short : (l : RequestedPrivilege) → level_allowed l ≡ true → level_byte l ≤ 5
+level_short None h = omega arith
+level_short (Level b) h = level_most b h
 
-pub request-taken : (asked : Asked) → asked.console < 2 ^ 32 → (asked.console ≡ 0 → ⊥) → level_allowed asked.level ≡ true
+pub request_taken : (asked : Asked) → asked.console < 2 ^ 32 → (asked.console ≡ 0 → ⊥) → level_allowed asked.level ≡ true
     → TakesRequest (request_of asked)
 unfolding request_of open_request
-request-taken asked a b l =
+request_taken asked a b l =
     record {
       size = refl;
-      level = level-short asked.level l;
+      level = level_short asked.level l;
       reserved = refl;
       console = (λ z. b (sym (request_sidm asked a) ∙ z));
       authentication = refl;
@@ -171,74 +171,74 @@ module _ (s : RakpMessage1) (e : length s.random ≡ 16) where
   unfolding message1
   one_tag = refl
 
-  one-reserved : part (message1 s) 1 3 ≡ replicate 3 0
+  one_reserved : part (message1 s) 1 3 ≡ replicate 3 0
   unfolding message1
-  one-reserved = refl
+  one_reserved = refl
 
-  one-system : s.system < 2 ^ 32 → unle (part (message1 s) 4 4) ≡ s.system
+  one_system : s.system < 2 ^ 32 → unle (part (message1 s) 4 4) ≡ s.system
   unfolding message1
-  one-system h = id-back s.system h
+  one_system h = id_back s.system h
 
   pub one_rm : rm_in (message1 s) ≡ s.random
   unfolding rm_in message1
   one_rm = ap (take 16) from_rm ∙ take_at s.random _ 16 e
 
-  pub one-role : role_in (message1 s) ≡ s.role
+  pub one_role : role_in (message1 s) ≡ s.role
   unfolding message1
-  one-role = ap (λ (l : List ℕ). get_or l 16 0) from_rm ∙ get_or_at s.random s.role _ 0 16 e
+  one_role = ap (λ (l : List ℕ). get_or l 16 0) from_rm ∙ get_or_at s.random s.role _ 0 16 e
 
-  one-unread : part (message1 s) 25 2 ≡ replicate 2 0
+  one_unread : part (message1 s) 25 2 ≡ replicate 2 0
   unfolding message1
-  one-unread = ap (λ (l : List ℕ). part l 17 2) from_rm ∙ part-behind s.random (between ++ name_of s.username) 16 1 2 e
+  one_unread = ap (λ (l : List ℕ). part l 17 2) from_rm ∙ part-behind s.random (between ++ name_of s.username) 16 1 2 e
 
-  pub one-count : name_size_in (message1 s) ≡ length (name_of s.username)
+  pub one_count : name_size_in (message1 s) ≡ length (name_of s.username)
   unfolding message1
-  one-count =
+  one_count =
       let n : length s.random + 3 ≡ 19 = omega arith in
       ap (λ (l : List ℕ). get_or l 19 0) from_rm
       ∙ ap (λ (k : ℕ). get_or (s.random ++ (between ++ name_of s.username)) k 0) (sym n)
       ∙ get_or-append-add s.random (between ++ name_of s.username) 3 0
 
-  pub one-rest : drop 28 (message1 s) ≡ name_of s.username
+  pub one_rest : drop 28 (message1 s) ≡ name_of s.username
   unfolding message1
-  one-rest =
+  one_rest =
       let n : length (s.random ++ between) ≡ 20 = simp length-append (omega arith) in
       drop_at (s.random ++ between) (name_of s.username) 20 n
 
   one_name : name_in (message1 s) ≡ name_of s.username
-  one_name = rw (one-count, one-rest, take-length (name_of s.username))
+  one_name = rw (one_count, one_rest, take-length (name_of s.username))
 
   pub message1-length : length (message1 s) ≡ 28 + length (name_of s.username)
   unfolding message1
   message1-length = simp length-append (omega arith)
 
-  pub one-who : who_in (message1 s) ≡ role_name s.role (name_of s.username)
+  pub one_who : who_in (message1 s) ≡ role_name s.role (name_of s.username)
   unfolding who_in
-  one-who = ap₂ role_name one-role one_name
+  one_who = ap₂ role_name one_role one_name
 
   -- which it takes, where it has the id s .system
-  pub one-taken : (y : System) → y.id ≡ s.system → s.system < 2 ^ 32 → is_level (s.role % 16) ≡ true → s.role < 32
+  pub one_taken : (y : System) → y.id ≡ s.system → s.system < 2 ^ 32 → is_level (s.role % 16) ≡ true → s.role < 32
       → length (name_of s.username) ≤ 16 → allowed (name_of s.username) ≡ true → TakesOne y (message1 s)
-  one-taken y i h l b n w =
+  one_taken y i h l b n w =
       record {
-        size = message1-length ∙ ap (λ (k : ℕ). 28 + k) (sym one-count);
-        reserved = one-reserved;
-        system = one-system h ∙ sym i;
-        role = rw one-role l;
-        lookup = rw one-role b;
-        unread = one-unread;
-        short = rw one-count n;
+        size = message1-length ∙ ap (λ (k : ℕ). 28 + k) (sym one_count);
+        reserved = one_reserved;
+        system = one_system h ∙ sym i;
+        role = rw one_role l;
+        lookup = rw one_role b;
+        unread = one_unread;
+        short = rw one_count n;
         name = rw one_name w;
       }
 
 -- message 3
 module _ (s : RakpMessage3) (code : List ℕ) where
-  pub three-tag : get_or (message3 s code) 0 0 ≡ s.tag
+  pub three_tag : get_or (message3 s code) 0 0 ≡ s.tag
   unfolding message3
-  three-tag = refl
+  three_tag = refl
 
-  pub three-taken : (y : System) (request one : List ℕ) → s.system ≡ y.id → s.system < 2 ^ 32 → length code ≡ code_size
+  pub three_taken : (y : System) (request one : List ℕ) → s.system ≡ y.id → s.system < 2 ^ 32 → length code ≡ code_size
       → code ≡ code3 hmac_sha1 y.password y.random (sidm_in request) (who_in one) → TakesThree y request one (message3 s code)
   unfolding message3
-  three-taken y request one i h n e =
-      record { size = omega (arith, n); status = refl; reserved = refl; system = id-back s.system h ∙ i; code = e }
+  three_taken y request one i h n e =
+      record { size = omega (arith, n); status = refl; reserved = refl; system = id_back s.system h ∙ i; code = e }

@@ -10,7 +10,7 @@ use lib.Seq.{length-take-le}
 use borrow.Author.Tests.{le-leb}
 use Rattle.refusal.specs.Order.{Res, refuse, accept, done}
 use Rattle.refusal.specs.declared.Refusal.TheVariants.{Declined, WrongStep}
-use Rattle.refusal.proofs.Order.{refuse≢accept, pass, need-no, done-yes}
+use Rattle.refusal.proofs.Order.{refuse≢accept, pass, need_no, done_yes}
 use Rattle.octets.specs.Equal.{same}
 use Rattle.octets.specs.Place.{begun}
 use Rattle.octets.proofs.Place.{to_end}
@@ -19,7 +19,7 @@ use Rattle.sha1_hmac.specs.Answers.{HashedPromise}
 use Rattle.sha1_hmac.specs.Hash.{hmac_sha1, hmac_blocks}
 use Rattle.sha1_hmac.specs.declared.Hashed.{Hashed}
 use Rattle.running.proofs.Promised.{yes}
-use Rattle.sha1_hmac.proofs.Laws.{mac-length}
+use Rattle.sha1_hmac.proofs.Laws.{mac_length}
 use Rattle.keys.specs.Chosen.{absent, key_of}
 use Rattle.keys.specs.declared.keys.Keys.{Keys}
 use Rattle.suite.specs.declared.SubState.{SubState}
@@ -49,36 +49,36 @@ use Rattle.session.specs.declared.Begun.{Begun}
 use Rattle.session.specs.declared.Agreed.{Agreed}
 use Rattle.session.specs.declared.Record.{Record}
 use Rattle.refusal.specs.declared.Outcome.TheVariants.{Done, Refused}
-use Rattle.session.proofs.Stages.{step-made}
-use Rattle.session.proofs.Chains.{two-found}
+use Rattle.session.proofs.Stages.{step_made}
+use Rattle.session.proofs.Chains.{two_found}
 
 -- a code under a key that is short enough
-pub hashed-digest : (k m : List ℕ) (r : Hashed) → length k ≤ limit
+pub hashed_digest : (k m : List ℕ) (r : Hashed) → length k ≤ limit
     → HashedPromise (leb (length k) limit) (hmac_sha1 k m) (hmac_blocks k m) r → r.digest ≡ hmac_sha1 k m
-hashed-digest k m r h p =
+hashed_digest k m r h p =
     let q : HashedPromise true (hmac_sha1 k m) (hmac_blocks k m) r = rw (le-leb (length k) limit h) at p in
     (yes q).1
 
 -- the key that was chosen is as short as both are
-pub key-short : (kg password : List ℕ) → length kg ≤ limit → length password ≤ limit → length (key_of kg password) ≤ limit
-key-short kg password h g = by (absent kg) refl
+pub key_short : (kg password : List ℕ) → length kg ≤ limit → length password ≤ limit → length (key_of kg password) ≤ limit
+key_short kg password h g = by (absent kg) refl
   where
     by : (t : Bool) → absent kg ≡ t → length (key_of kg password) ≤ limit
     by true e = rw e g
     by false e = rw e h
 
 -- Begin: the request, and the record
-pub begin-made : (asked : Asked) (u : Username) (out : List ℕ) (b : Begun) (st : Record) (w : Written) (x : List ℕ) → b ≡ begun_of asked u
+pub begin_made : (asked : Asked) (u : Username) (out : List ℕ) (b : Begun) (st : Record) (w : Written) (x : List ℕ) → b ≡ begun_of asked u
     → st ≡ begun_with b → WritePromise (request_of asked) out w x → request_size ≤ length out
     → StepPromise (accept (made_begin asked u)) closed out (record { state = st; answer = Done; len = request_size }) x
 unfolding made_begin request_of open_request
-begin-made asked u out b st w x e f p h =
-    step-made (made_begin asked u) closed out st request_size x (f ∙ ap begun_with e) refl (wrote _ out w x p h).1
+begin_made asked u out b st w x e f p h =
+    step_made (made_begin asked u) closed out st request_size x (f ∙ ap begun_with e) refl (wrote _ out w x p h).1
 
 -- the open response: message 1, and the record
-name-size : (u : Username) → length u.bytes ≡ 16 → u.len ≤ 16 → u.len ≡ length (name_of u)
+name_size : (u : Username) → length u.bytes ≡ 16 → u.len ≤ 16 → u.len ≡ length (name_of u)
 unfolding name_of
-name-size u e h = sym (length-take-le u.len u.bytes (omega arith))
+name_size u e h = sym (length-take-le u.len u.bytes (omega arith))
 
 pub open_made : (s : Record) (r : OpenSessionResponse) (rm out : List ℕ) (st : Record) (n : ℕ) (w : Written) (x : List ℕ)
     → n ≡ s.begun.username.len → st ≡ answered s (response_numbers r) rm
@@ -87,8 +87,8 @@ pub open_made : (s : Record) (r : OpenSessionResponse) (rm out : List ℕ) (st :
     → StepPromise (accept (made_open s rm (response_numbers r))) s out (record { state = st; answer = Done; len = one_size n }) x
 unfolding made_open response_numbers
 open_made s r rm out st n w x q e p k b l h =
-    let z = size1 (one_to r.system s rm) k s.begun.username.len (name-size s.begun.username b l) out in
-    step-made (made_open s rm (response_numbers r)) s out st (one_size n) x e (ap one_size q ∙ sym z) (wrote _ out w x p (omega arith)).1
+    let z = size1 (one_to r.system s rm) k s.begun.username.len (name_size s.begun.username b l) out in
+    step_made (made_open s rm (response_numbers r)) s out st (one_size n) x e (ap one_size q ∙ sym z) (wrote _ out w x p (omega arith)).1
 
 -- message 2: message 3, and the record
 pub two_made : (s : Record) (kg password : List ℕ) (f : RakpMessage2) (code sik out : List ℕ) (st : Record) (w : Written) (x : List ℕ)
@@ -97,9 +97,9 @@ pub two_made : (s : Record) (kg password : List ℕ) (f : RakpMessage2) (code si
     → StepPromise (accept (made_two s kg password f)) s out (record { state = st; answer = Done; len = three_size }) x
 unfolding made_two message3 code_three
 two_made s kg password f code sik out st w x a b e p h =
-    let n : length code ≡ code_size = ap length a ∙ mac-length password _ in
+    let n : length code ≡ code_size = ap length a ∙ mac_length password _ in
     let z : length (message3 (three_of s) code) ≡ three_size = simp length-append (omega arith) in
-    step-made (made_two s kg password f) s out st three_size x (e ∙ ap (keyed s f.guid) b)
+    step_made (made_two s kg password f) s out st three_size x (e ∙ ap (keyed s f.guid) b)
     (sym z ∙ ap (λ (c : List ℕ). length (message3 (three_of s) c)) a)
     ((wrote _ out w x p (omega arith)).1 ∙ ap (λ (c : List ℕ). begun (message3 (three_of s) c) out) a)
 
@@ -116,21 +116,21 @@ pub heard_stop : (R : Res RakpMessage2) (n v : ℕ) (t : Outcome) (f : RakpMessa
 heard_stop R n v t f e g = record { answer = g ∙ sym (ap done e); message = λ h k. absurd (refuse≢accept n v h (sym e ∙ k)) }
 
 pub heard_pass : (R : Res RakpMessage2) (f : RakpMessage2) → R ≡ accept f → HeardTwo R (record { answer = outcome.Done; message = f })
-heard_pass R f e = record { answer = sym (ap done e); message = λ h k. accept-one (sym e ∙ k) }
+heard_pass R f e = record { answer = sym (ap done e); message = λ h k. accept_one (sym e ∙ k) }
   where
-    accept-one : {h : RakpMessage2} → accept f ≡ accept h → f ≡ h
-    accept-one q = cc
+    accept_one : {h : RakpMessage2} → accept f ≡ accept h → f ≡ h
+    accept_one q = cc
 
 pub heard_now : (R : Res RakpMessage2) (r : RakpAnswer2) → HeardTwo R r → r.answer ≡ outcome.Done → R ≡ accept r.message
 heard_now R r p e =
-    let u = done-yes R (sym p.answer ∙ ap told e) in
+    let u = done_yes R (sym p.answer ∙ ap told e) in
     u.1 ∙ ap accept (sym (p.message u.0 u.1))
 
 -- the code's place lies in the message
 pub code_inside : (s : Record) (m : List ℕ) (f : RakpMessage2) → heard_two s m ≡ accept f → f.code.at ≤ length m
 unfolding fields2
 code_inside s m f e =
-    let g = found_2 m f (two-found s m f e) in
+    let g = found_2 m f (two_found s m f e) in
     let z : f.code.at ≡ 40 = ap (λ (x : RakpMessage2). x.code.at) g.0 in
     omega (arith, g.1)
 
@@ -143,17 +143,17 @@ value_inside m f e =
     omega (arith, g.1)
 
 -- which is compared from there to the end
-pub same-four : (s : Record) (m : List ℕ) (a : ℕ) (v : List ℕ) (t : Bool) → v ≡ value_four s
+pub same_four : (s : Record) (m : List ℕ) (a : ℕ) (v : List ℕ) (t : Bool) → v ≡ value_four s
     → t ≡ same (take (length m - a) (drop a m)) v → t ≡ same (drop a m) (value_four s)
-same-four s m a v t g h = h ∙ ap₂ same (to_end (length m) a m (omega arith)) g
+same_four s m a v t g h = h ∙ ap₂ same (to_end (length m) a m (omega arith)) g
 
 -- the session of a record
-pub session-no : (s : Record) (k : Keys) (g : Agreed) (z : SubState) → in_step s 4 ≡ false → k ≡ no_keys → g ≡ none_agreed
+pub session_no : (s : Record) (k : Keys) (g : Agreed) (z : SubState) → in_step s 4 ≡ false → k ≡ no_keys → g ≡ none_agreed
     → z ≡ session_with k g → SessionPromise s (record { answer = Refused WrongStep; session = z })
 unfolding session_of
-session-no s k g z e a b f = record { answer = sym (need-no _ _ _ _ e); session = rw (e, f, a, b) }
+session_no s k g z e a b f = record { answer = sym (need_no _ _ _ _ e); session = rw (e, f, a, b) }
 
-pub session-yes : (s : Record) (z : SubState) → in_step s 4 ≡ true → z ≡ session_with s.keys s.agreed
+pub session_yes : (s : Record) (z : SubState) → in_step s 4 ≡ true → z ≡ session_with s.keys s.agreed
     → SessionPromise s (record { answer = Done; session = z })
 unfolding session_of
-session-yes s z e f = record { answer = sym (pass _ _ _ _ e refl); session = rw (e, f) }
+session_yes s z e f = record { answer = sym (pass _ _ _ _ e refl); session = rw (e, f) }

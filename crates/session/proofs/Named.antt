@@ -14,42 +14,42 @@ use Rattle.refusal.specs.Order.{Res, refuse, accept, need, and_then, done}
 use Rattle.refusal.specs.Table.{among}
 use Rattle.refusal.specs.Outcome.{told}
 use Rattle.refusal.specs.declared.Outcome.TheVariants.{Done}
-use Rattle.refusal.proofs.Order.{refuse≢accept, pass, need-past, need_own, then_need, then_accept, done-need, done-yes, done-no}
+use Rattle.refusal.proofs.Order.{refuse≢accept, pass, need_past, need_own, then_need, then_accept, done_need, done_yes, done_no}
 use Rattle.octets.specs.Place.{begun}
-use Rattle.octets.proofs.Place.{begun-none}
+use Rattle.octets.proofs.Place.{begun_none}
 use Rattle.messages.specs.Name.{allowed, longest_name, username_of, name_of, stored}
 use Rattle.messages.specs.OpenSession.{level_byte}
 use Rattle.messages.specs.Rakp.{declined3}
-use Rattle.messages.proofs.Names.{stored-whole}
+use Rattle.messages.proofs.Names.{stored_whole}
 use Rattle.session.specs.Constants.{request_size, one_size}
 use Rattle.session.specs.Record.{step_number, closed, begun_of, begun_with}
 use Rattle.session.specs.Steps.{Made, level_allowed, ready_begin, made_begin, begin_of, one_to, open_of, three_of}
 use Rattle.session.specs.Promise.{keeping, record_after, written}
-use Rattle.session.specs.Invariant.{Reached, by-begin, by_open, by_two, by-four}
+use Rattle.session.specs.Invariant.{Reached, by_begin, by_open, by_two, by_four}
 use Rattle.session.specs.System.{name_in}
 use Rattle.session.specs.Exchange.{sent}
 use Rattle.session.specs.Named.{NamesUser}
 use Rattle.session.specs.declared.Asked.{Asked}
 use Rattle.session.specs.declared.Begun.{Begun}
 use Rattle.session.specs.declared.Record.{Record}
-use Rattle.session.proofs.Stages.{Only, Quiet, only-accept, only-need, only_then, either_way}
+use Rattle.session.proofs.Stages.{Only, Quiet, only_accept, only_need, only_then, either_way}
 use Rattle.session.proofs.Refusals.{ready_begin_quiet, username_quiet}
-use Rattle.session.proofs.Accepted.{begin-tells, open_tells}
-use Rattle.session.proofs.Invariant.{reached-sound, reached-holds}
-use Rattle.session.proofs.Heard.{message1-length, one-count, one-rest}
-use Rattle.session.proofs.Calls.{BeginCall, OpenCall, TwoCall, FourCall, name_lent, seen_begin, seen_open, random_sixteen, made-sent}
+use Rattle.session.proofs.Accepted.{begin_tells, open_tells}
+use Rattle.session.proofs.Invariant.{reached_sound, reached_holds}
+use Rattle.session.proofs.Heard.{message1-length, one_count, one_rest}
+use Rattle.session.proofs.Calls.{BeginCall, OpenCall, TwoCall, FourCall, name_lent, seen_begin, seen_open, random_sixteen, made_sent}
 
 -- a record that waits for a step or is open holds the name that Begin was given
 module _ (asked : Asked) (name : List ℕ) (s : Record) (r : Reached asked name s) (h : 1 ≤ step_number s.step) where
   pub name_held : name_of s.begun.username ≡ name
   unfolding begun_of
-  name_held = ap (λ (b : Begun). name_of b.username) ((reached-holds asked name s r).begun h) ∙ stored-whole name
+  name_held = ap (λ (b : Begun). name_of b.username) ((reached_holds asked name s r).begun h) ∙ stored_whole name
 
-  pub name-within : (length name ≤ longest_name) × (allowed name ≡ true)
+  pub name_within : (length name ≤ longest_name) × (allowed name ≡ true)
   unfolding begun_of stored
-  name-within =
-      let n = ap (λ (b : Begun). b.username.len) ((reached-holds asked name s r).begun h) in
-      let t = reached-sound asked name s r in
+  name_within =
+      let n = ap (λ (b : Begun). b.username.len) ((reached_holds asked name s r).begun h) in
+      let t = reached_sound asked name s r in
       (subst (λ (k : ℕ). k ≤ longest_name) n t.len, ap allowed (sym name_held) ∙ t.legal)
 
 -- message 1 names the user that Begin was given
@@ -60,19 +60,19 @@ open_names asked name s r m rm room M k e =
     let first = one_to a.0.system s rm in
     let h : 1 ≤ step_number s.step = omega arith in
     let n = name_held asked name s r h in
-    let w = name-within asked name s r h in
+    let w = name_within asked name s r h in
     subst (λ (x : List ℕ). NamesUser x name) (sym a.4)
     (record {
       short = w.0;
       legal = w.1;
       size = message1-length first k ∙ ap (λ (l : List ℕ). one_size (length l)) n;
-      count = one-count first k ∙ ap length n;
-      rest = one-rest first k ∙ n;
+      count = one_count first k ∙ ap length n;
+      rest = one_rest first k ∙ n;
     })
 
 -- the records that calls answer are reached
 pub begin_reaches : (c : BeginCall) → Reached c.args.0 (name_lent c) c.answer.state
-begin_reaches c = subst (Reached _ _) (sym c.kept.next) (by-begin (length c.args.1.1.0.now))
+begin_reaches c = subst (Reached _ _) (sym c.kept.next) (by_begin (length c.args.1.1.0.now))
 
 module _ (asked : Asked) (name : List ℕ) where
   pub open_reaches : (c : OpenCall) → Reached asked name c.args.0 → Reached asked name c.answer.state
@@ -82,12 +82,12 @@ module _ (asked : Asked) (name : List ℕ) where
   two_reaches c r = subst (Reached asked name) (sym c.kept.next) (by_two _ _ _ _ _ _ r)
 
   pub four_reaches : (c : FourCall) → Reached asked name c.args.0 → Reached asked name c.answer.state
-  four_reaches c r = subst (Reached asked name) (sym c.kept.next) (by-four _ _ r)
+  four_reaches c r = subst (Reached asked name) (sym c.kept.next) (by_four _ _ r)
 
   pub message_1_names : (c : OpenCall) → Reached asked name c.args.0 → c.answer.answer ≡ Done → NamesUser (sent (seen_open c)) name
   message_1_names c r e =
-      let a = done-yes _ (sym c.kept.answer ∙ ap told e) in
-      subst (λ (x : List ℕ). NamesUser x name) (sym (made-sent _ a.0 c.args.0 (seen_open c) c.kept a.1))
+      let a = done_yes _ (sym c.kept.answer ∙ ap told e) in
+      subst (λ (x : List ℕ). NamesUser x name) (sym (made_sent _ a.0 c.args.0 (seen_open c) c.kept a.1))
       (open_names asked name c.args.0 r _ _ _ a.0 (random_sixteen c) a.1)
 
 -- from what Begin was given to message 1
@@ -117,17 +117,17 @@ five_tests : {A B : Type 0} (a b c d e : Bool) (v : ℕ) (x : A) (f : A → B)
     ≡ need a 20 0 (need b 19 v (need c 40 0 (need d 34 0 (need e 15 0 (accept tt)))))
 five_tests a b c d e v x f =
     ap done (two_tests a b 20 0 19 v tt _ ∙ ap (λ r. need a 20 0 (need b 19 v r)) (two_tests c d 40 0 34 0 x _))
-    ∙ done-need a 20 0 _
+    ∙ done_need a 20 0 _
     ∙ ap (need a 20 0)
-    (done-need b 19 v _
-    ∙ ap (need b 19 v) (done-need c 40 0 _ ∙ ap (need c 40 0) (done-need d 34 0 _ ∙ ap (need d 34 0) (done-need e 15 0 _))))
+    (done_need b 19 v _
+    ∙ ap (need b 19 v) (done_need c 40 0 _ ∙ ap (need c 40 0) (done_need d 34 0 _ ∙ ap (need d 34 0) (done_need e 15 0 _))))
 
 -- 40 is the length's own: behind its test there is none
 own_40 : (b d e : Bool) → (need {A = Unit {0}} b 40 0 (need d 34 0 (need e 15 0 (accept tt))) ≡ refuse 40 0) ↔ (b ≡ false)
 own_40 b d e =
     need_own b 40 0 _ (λ (h : need {A = Unit {0}} d 34 0 (need e 15 0 (accept tt)) ≡ refuse 40 0).
-    let p = need-past d 34 0 _ {m = 40} (λ (z : 34 ≡ 40). omega arith) h in
-    refuse≢accept 40 0 tt (sym (need-past e 15 0 _ {m = 40} (λ (z : 15 ≡ 40). omega arith) p.1).1))
+    let p = need_past d 34 0 _ {m = 40} (λ (z : 34 ≡ 40). omega arith) h in
+    refuse≢accept 40 0 tt (sym (need_past e 15 0 _ {m = 40} (λ (z : 15 ≡ 40). omega arith) p.1).1))
 
 module _ (c : BeginCall) where
   pub begin_order : told c.answer.answer
@@ -144,8 +144,8 @@ module _ (c : BeginCall) where
       ↔ ((c.args.0.console ≡ 0 → ⊥) × (level_allowed c.args.0.level ≡ true) × (longest_name < length (name_lent c)))
   begin_too_long = (
     (λ e.
-        let p = need-past _ 20 0 _ {m = 40} (λ z. omega arith) (sym begin_order ∙ e) in
-        let q = need-past _ 19 _ _ {m = 40} (λ z. omega arith) p.1 in
+        let p = need_past _ 20 0 _ {m = 40} (λ z. omega arith) (sym begin_order ∙ e) in
+        let q = need_past _ 19 _ _ {m = 40} (λ z. omega arith) p.1 in
         (eqb-false _ 0 (not-true _ p.0), q.0, leb-false _ _ ((own_40 _ _ _).0 q.1))),
     (λ h.
         begin_order
@@ -157,21 +157,21 @@ module _ (c : BeginCall) where
   unfolding begin_of
   begin_quiet =
       only_then Quiet _ _ (ready_begin_quiet _) (λ _.
-      only_then Quiet _ _ (username_quiet _) (λ _. only-need Quiet _ _ _ _ refl (only-accept Quiet _)))
+      only_then Quiet _ _ (username_quiet _) (λ _. only_need Quiet _ _ _ _ refl (only_accept Quiet _)))
 
-  pub begin-refused : (n v : ℕ) → told c.answer.answer ≡ refuse n v
+  pub begin_refused : (n v : ℕ) → told c.answer.answer ≡ refuse n v
       → (c.answer.state ≡ closed) × (c.answer.len ≡ 0) × ((seen_begin c).left ≡ (seen_begin c).lent)
-  begin-refused n v e =
-      let f = done-no _ n v (sym c.kept.answer ∙ e) in
+  begin_refused n v e =
+      let f = done_no _ n v (sym c.kept.answer ∙ e) in
       let w = ap (written closed) f ∙ ap (λ (t : Bool). cond t (declined3 (three_of closed)) []) (begin_quiet n v f) in (
         c.kept.next ∙ ap (record_after closed) f ∙ either_way (among n keeping) closed,
         c.kept.len ∙ ap length w,
-        c.kept.buffer ∙ ap (λ (x : List ℕ). begun x (seen_begin c).lent) w ∙ begun-none (seen_begin c).lent,
+        c.kept.buffer ∙ ap (λ (x : List ℕ). begun x (seen_begin c).lent) w ∙ begun_none (seen_begin c).lent,
       )
 
   -- what an accepted one fixes is the whole name
-  pub begin-whole : c.answer.answer ≡ Done → c.answer.state ≡ begun_with (begun_of c.args.0 (stored (name_lent c)))
+  pub begin_whole : c.answer.answer ≡ Done → c.answer.state ≡ begun_with (begun_of c.args.0 (stored (name_lent c)))
   unfolding made_begin
-  begin-whole e =
-      let a = done-yes _ (sym c.kept.answer ∙ ap told e) in
-      c.kept.next ∙ ap (record_after closed) a.1 ∙ ap (λ (M : Made). M.next) (begin-tells _ _ _ _ a.1).4
+  begin_whole e =
+      let a = done_yes _ (sym c.kept.answer ∙ ap told e) in
+      c.kept.next ∙ ap (record_after closed) a.1 ∙ ap (λ (M : Made). M.next) (begin_tells _ _ _ _ a.1).4

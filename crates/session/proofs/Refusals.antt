@@ -12,33 +12,33 @@ use Rattle.messages.specs.Status.{common, number_if, status_number}
 use Rattle.session.specs.Steps.{ready_begin, ready_open, heard_open, ready_two, heard_two, ready_four, heard_four}
 use Rattle.session.specs.declared.Asked.{Asked}
 use Rattle.session.specs.declared.Record.{Record}
-use Rattle.session.proofs.Stages.{Only, Quiet, Keeps, Shuts, only-accept, only-need, only_then}
+use Rattle.session.proofs.Stages.{Only, Quiet, Keeps, Shuts, only_accept, only_need, only_then}
 
 -- Begin
 pub ready_begin_quiet : (asked : Asked) → Only Quiet (ready_begin asked)
 unfolding ready_begin
-ready_begin_quiet asked = only-need Quiet _ _ _ _ refl (only-need Quiet _ _ _ _ refl (only-accept Quiet _))
+ready_begin_quiet asked = only_need Quiet _ _ _ _ refl (only_need Quiet _ _ _ _ refl (only_accept Quiet _))
 
 pub username_quiet : (name : List ℕ) → Only Quiet (username_of name)
 unfolding username_of
-username_quiet name = only-need Quiet _ _ _ _ refl (only-need Quiet _ _ _ _ refl (only-accept Quiet _))
+username_quiet name = only_need Quiet _ _ _ _ refl (only_need Quiet _ _ _ _ refl (only_accept Quiet _))
 
 -- before the message
 pub ready_open_keeps : (s : Record) (room : ℕ) → Only Keeps (ready_open s room)
 unfolding ready_open
-ready_open_keeps s room = only-need Keeps _ _ _ _ (refl, refl) (only-need Keeps _ _ _ _ (refl, refl) (only-accept Keeps _))
+ready_open_keeps s room = only_need Keeps _ _ _ _ (refl, refl) (only_need Keeps _ _ _ _ (refl, refl) (only_accept Keeps _))
 
 pub ready_two_keeps : (most : ℕ) (s : Record) (kg password : List ℕ) (room : ℕ) → Only Keeps (ready_two most s kg password room)
 unfolding ready_two
 ready_two_keeps most s kg password room =
-    only-need Keeps _ _ _ _ (refl, refl)
-    (only-need Keeps _ _ _ _ (refl, refl)
-    (only-need Keeps _ _ _ _ (refl, refl)
-    (only-need Keeps _ _ _ _ (refl, refl) (only-accept Keeps _))))
+    only_need Keeps _ _ _ _ (refl, refl)
+    (only_need Keeps _ _ _ _ (refl, refl)
+    (only_need Keeps _ _ _ _ (refl, refl)
+    (only_need Keeps _ _ _ _ (refl, refl) (only_accept Keeps _))))
 
 pub ready_four_keeps : (s : Record) → Only Keeps (ready_four s)
 unfolding ready_four
-ready_four_keeps s = only-need Keeps _ _ _ _ (refl, refl) (only-accept Keeps _)
+ready_four_keeps s = only_need Keeps _ _ _ _ (refl, refl) (only_accept Keeps _)
 
 -- for the message
 named_shuts : (t : Bool) → Shuts (number_if t)
@@ -53,53 +53,53 @@ block_shuts : (t : ℕ) (l : List ℕ) → Only Shuts (of_type t (block_of l))
 unfolding of_type block_of known
 block_shuts t l =
     only_then Shuts _ _
-    (only-need Shuts _ _ _ _ (refl, refl)
-    (only-need Shuts _ _ _ _ (refl, refl) (only-need Shuts _ _ _ _ (refl, refl) (only-accept Shuts _))))
-    (λ b. only-need Shuts _ _ _ _ (refl, refl) (only-accept Shuts _))
+    (only_need Shuts _ _ _ _ (refl, refl)
+    (only_need Shuts _ _ _ _ (refl, refl) (only_need Shuts _ _ _ _ (refl, refl) (only_accept Shuts _))))
+    (λ b. only_need Shuts _ _ _ _ (refl, refl) (only_accept Shuts _))
 
 open_shuts : (m : List ℕ) → Only Shuts (open_response m)
 unfolding open_response open_checked open_fields
 open_shuts m =
     only_then Shuts _ _
-    (only-need Shuts _ _ _ _ (refl, refl)
-    (only-need Shuts _ _ _ _ (status_shuts _ _)
-    (only-need Shuts _ _ _ _ (refl, refl)
-    (only-need Shuts _ _ _ _ (refl, refl)
-    (only-need Shuts _ _ _ _ (refl, refl) (only-need Shuts _ _ _ _ (refl, refl) (only-accept Shuts _)))))))
+    (only_need Shuts _ _ _ _ (refl, refl)
+    (only_need Shuts _ _ _ _ (status_shuts _ _)
+    (only_need Shuts _ _ _ _ (refl, refl)
+    (only_need Shuts _ _ _ _ (refl, refl)
+    (only_need Shuts _ _ _ _ (refl, refl) (only_need Shuts _ _ _ _ (refl, refl) (only_accept Shuts _)))))))
     (λ _. only_then Shuts _ _ (block_shuts 0 _)
     (λ a. only_then Shuts _ _ (block_shuts 1 _)
-    (λ i. only_then Shuts _ _ (block_shuts 2 _) (λ c. only-accept Shuts _))))
+    (λ i. only_then Shuts _ _ (block_shuts 2 _) (λ c. only_accept Shuts _))))
 
 pub heard_open_shuts : (s : Record) (m : List ℕ) → Only Shuts (heard_open s m)
 unfolding heard_open
 heard_open_shuts s m =
     only_then Shuts _ _ (open_shuts m)
     (λ r.
-    only-need Shuts _ _ _ _ (refl, refl)
-    (only-need Shuts _ _ _ _ (refl, refl) (only-need Shuts _ _ _ _ (refl, refl) (only-accept Shuts _))))
+    only_need Shuts _ _ _ _ (refl, refl)
+    (only_need Shuts _ _ _ _ (refl, refl) (only_need Shuts _ _ _ _ (refl, refl) (only_accept Shuts _))))
 
 -- the common head of messages 2 and 4, whichever id it must not find zero
 head_shuts : (names : List ℕ) (fixed n v : ℕ) (m : List ℕ) → Shuts n → Only Shuts (checked names fixed n v m)
 unfolding checked
 head_shuts names fixed n v m h =
-    only-need Shuts _ _ _ _ (refl, refl)
-    (only-need Shuts _ _ _ _ (status_shuts _ _)
-    (only-need Shuts _ _ _ _ (refl, refl) (only-need Shuts _ _ _ _ h (only-accept Shuts _))))
+    only_need Shuts _ _ _ _ (refl, refl)
+    (only_need Shuts _ _ _ _ (status_shuts _ _)
+    (only_need Shuts _ _ _ _ (refl, refl) (only_need Shuts _ _ _ _ h (only_accept Shuts _))))
 
 pub heard_two_shuts : (s : Record) (m : List ℕ) → Only Shuts (heard_two s m)
 unfolding heard_two message2
 heard_two_shuts s m =
     only_then Shuts _ _
-    (only_then Shuts _ _ (head_shuts _ _ _ _ m (refl, refl)) (λ _. only-accept Shuts _))
+    (only_then Shuts _ _ (head_shuts _ _ _ _ m (refl, refl)) (λ _. only_accept Shuts _))
     (λ f.
-    only-need Shuts _ _ _ _ (refl, refl)
-    (only-need Shuts _ _ _ _ (refl, refl) (only-need Shuts _ _ _ _ (refl, refl) (only-accept Shuts _))))
+    only_need Shuts _ _ _ _ (refl, refl)
+    (only_need Shuts _ _ _ _ (refl, refl) (only_need Shuts _ _ _ _ (refl, refl) (only_accept Shuts _))))
 
 pub heard_four_shuts : (s : Record) (m : List ℕ) → Only Shuts (heard_four s m)
 unfolding heard_four message4
 heard_four_shuts s m =
     only_then Shuts _ _
-    (only_then Shuts _ _ (head_shuts _ _ _ _ m (refl, refl)) (λ _. only-accept Shuts _))
+    (only_then Shuts _ _ (head_shuts _ _ _ _ m (refl, refl)) (λ _. only_accept Shuts _))
     (λ f.
-    only-need Shuts _ _ _ _ (refl, refl)
-    (only-need Shuts _ _ _ _ (refl, refl) (only-need Shuts _ _ _ _ (refl, refl) (only-accept Shuts _))))
+    only_need Shuts _ _ _ _ (refl, refl)
+    (only_need Shuts _ _ _ _ (refl, refl) (only_need Shuts _ _ _ _ (refl, refl) (only_accept Shuts _))))

@@ -8,7 +8,7 @@ use lib.ListN.{length, drop}
 use Rattle.refusal.specs.Order.{accept}
 use Rattle.refusal.specs.Outcome.{told}
 use Rattle.refusal.specs.declared.Outcome.TheVariants.{Done}
-use Rattle.refusal.proofs.Order.{done-yes}
+use Rattle.refusal.proofs.Order.{done_yes}
 use Rattle.sha1_hmac.specs.Hash.{hmac_sha1}
 use Rattle.keys.specs.Chosen.{key_of}
 use Rattle.keys.specs.Codes.{role_name, code2, sik_of, code3}
@@ -27,22 +27,22 @@ use Rattle.session.specs.Rights.{Covers}
 use Rattle.session.specs.declared.Asked.{Asked}
 use Rattle.session.specs.declared.Begun.{Begun}
 use Rattle.session.specs.declared.Record.{Record}
-use Rattle.session.proofs.Chains.{two-found}
-use Rattle.session.proofs.Accepted.{begin-tells, open_tells, two-tells}
-use Rattle.session.proofs.Invariant.{reached-holds}
-use Rattle.session.proofs.Heard.{request-level, one-role}
-use Rattle.session.proofs.Calls.{BeginCall, OpenCall, TwoCall, seen_begin, seen_open, seen_two, random_sixteen, made-next, made-sent}
+use Rattle.session.proofs.Chains.{two_found}
+use Rattle.session.proofs.Accepted.{begin_tells, open_tells, two_tells}
+use Rattle.session.proofs.Invariant.{reached_holds}
+use Rattle.session.proofs.Heard.{request_level, one_role}
+use Rattle.session.proofs.Calls.{BeginCall, OpenCall, TwoCall, seen_begin, seen_open, seen_two, random_sixteen, made_next, made_sent}
 use Rattle.session.proofs.Named.{name_held, begin_reaches}
 
 -- a record that waits for a step or is open holds the id and the role that Begin was given, and N is made of that role
 module _ (asked : Asked) (name : List ℕ) (s : Record) (r : Reached asked name s) (h : 1 ≤ step_number s.step) where
   console_held : s.begun.console ≡ asked.console
   unfolding begun_of
-  console_held = ap (λ (b : Begun). b.console) ((reached-holds asked name s r).begun h)
+  console_held = ap (λ (b : Begun). b.console) ((reached_holds asked name s r).begun h)
 
   pub role_held : s.begun.role ≡ role_asked asked
   unfolding begun_of
-  role_held = ap (λ (b : Begun). b.role) ((reached-holds asked name s r).begun h)
+  role_held = ap (λ (b : Begun). b.role) ((reached_holds asked name s r).begun h)
 
   pub who_held : who s ≡ who_asked asked name
   unfolding who
@@ -70,28 +70,28 @@ pub open_asks : (asked : Asked) (name : List ℕ) (s : Record) → Reached asked
 open_asks asked name s r m rm room M k e =
     let a = open_tells s m rm room M e in
     let h : 1 ≤ step_number s.step = omega arith in
-    ap role_in a.4 ∙ one-role (one_to a.0.system s rm) k ∙ role_held asked name s r h
+    ap role_in a.4 ∙ one_role (one_to a.0.system s rm) k ∙ role_held asked name s r h
 
 pub message_1_asks : (asked : Asked) (name : List ℕ) (c : OpenCall) → Reached asked name c.args.0 → c.answer.answer ≡ Done
     → role_in (sent (seen_open c)) ≡ role_asked asked
 message_1_asks asked name c r e =
-    let a = done-yes _ (sym c.kept.answer ∙ ap told e) in
-    ap role_in (made-sent _ a.0 c.args.0 (seen_open c) c.kept a.1)
+    let a = done_yes _ (sym c.kept.answer ∙ ap told e) in
+    ap role_in (made_sent _ a.0 c.args.0 (seen_open c) c.kept a.1)
     ∙ open_asks asked name c.args.0 r _ _ _ a.0 (random_sixteen c) a.1
 
 -- from what Begin was given to message 1
-pub begin-to-role : (b : BeginCall) (c : OpenCall) → c.args.0 ≡ b.answer.state → c.answer.answer ≡ Done
+pub begin_to_role : (b : BeginCall) (c : OpenCall) → c.args.0 ≡ b.answer.state → c.answer.answer ≡ Done
     → role_in (sent (seen_open c)) ≡ role_asked b.args.0
-begin-to-role b c e d = message_1_asks _ _ c (subst (Reached _ _) (sym e) (begin_reaches b)) d
+begin_to_role b c e d = message_1_asks _ _ c (subst (Reached _ _) (sym e) (begin_reaches b)) d
 
 -- what is taken for message 2's code, and what is made of it, is over N as Begin was given it
 pub two_covers : (asked : Asked) (name : List ℕ) (s : Record) → Reached asked name s → (most : ℕ) (kg password m : List ℕ) (room : ℕ) (M : Made)
     → two_of most s kg password m room ≡ accept M → Covers asked name s kg password m M.bytes M.next
 unfolding fields2 message3 keyed
 two_covers asked name s r most kg password m room M e =
-    let a = two-tells most s kg password m room M e in
+    let a = two_tells most s kg password m room M e in
     let h : 1 ≤ step_number s.step = omega arith in
-    let g = (found_2 m a.0 (two-found s m a.0 a.4)).0 in
+    let g = (found_2 m a.0 (two_found s m a.0 a.4)).0 in
     record {
       code_2 = sym (ap (λ (x : RakpMessage2). drop x.code.at m) g)
           ∙ a.5
@@ -105,15 +105,15 @@ two_covers asked name s r most kg password m room M e =
 pub message_2_covers : (asked : Asked) (name : List ℕ) (c : TwoCall) → Reached asked name c.args.0 → c.answer.answer ≡ Done
     → Covers asked name c.args.0 c.args.1.0.now c.args.1.1.0.now c.args.1.1.1.0.now (sent (seen_two c)) c.answer.state
 message_2_covers asked name c r e =
-    let a = done-yes _ (sym c.kept.answer ∙ ap told e) in
-    let t = made-sent _ a.0 c.args.0 (seen_two c) c.kept a.1 in
-    let n = made-next _ a.0 c.args.0 (seen_two c) c.kept a.1 in
+    let a = done_yes _ (sym c.kept.answer ∙ ap told e) in
+    let t = made_sent _ a.0 c.args.0 (seen_two c) c.kept a.1 in
+    let n = made_next _ a.0 c.args.0 (seen_two c) c.kept a.1 in
     rw (t, n) (two_covers asked name c.args.0 r _ _ _ _ _ a.0 a.1)
 
 -- the request's own byte is the level, or 0 where none was asked for, however the user is looked up
 pub request_asks : (c : BeginCall) → c.answer.answer ≡ Done → level_in (sent (seen_begin c)) ≡ level_byte c.args.0.level
 unfolding made_begin
 request_asks c e =
-    let a = done-yes _ (sym c.kept.answer ∙ ap told e) in
-    ap level_in (made-sent _ a.0 closed (seen_begin c) c.kept a.1 ∙ ap (λ (M : Made). M.bytes) (begin-tells _ _ _ _ a.1).4)
-    ∙ request-level c.args.0
+    let a = done_yes _ (sym c.kept.answer ∙ ap told e) in
+    ap level_in (made_sent _ a.0 closed (seen_begin c) c.kept a.1 ∙ ap (λ (M : Made). M.bytes) (begin_tells _ _ _ _ a.1).4)
+    ∙ request_level c.args.0

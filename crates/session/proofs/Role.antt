@@ -14,37 +14,37 @@ use Rattle.session.specs.Steps.{level_allowed}
 use Rattle.session.specs.declared.Lookup.{Lookup}
 use Rattle.session.specs.declared.Lookup.TheVariants.{NameAndLevel, NameOnly}
 
-level-legal : (l : RequestedPrivilege) → level_allowed l ≡ true → is_level (level_of l) ≡ true
+level_legal : (l : RequestedPrivilege) → level_allowed l ≡ true → is_level (level_of l) ≡ true
 unfolding is_level
-level-legal None h = refl
-level-legal (Level b) h = h
+level_legal None h = refl
+level_legal (Level b) h = h
 
-pub level-most : (b : ℕ) → is_level b ≡ true → b ≤ 5
+pub level_most : (b : ℕ) → is_level b ≡ true → b ≤ 5
 unfolding is_level
-level-most b h = leb-true b 5 ((and-eq-true_iff (leb 1 b) (leb b 5)).0 h).1
+level_most b h = leb-true b 5 ((and-eq-true_iff (leb 1 b) (leb b 5)).0 h).1
 
 module _ (l : RequestedPrivilege) (h : level_allowed l ≡ true) where
-  pub level-small : level_of l ≤ 5
-  level-small = level-most (level_of l) (level-legal l h)
+  pub level_small : level_of l ≤ 5
+  level_small = level_most (level_of l) (level_legal l h)
 
   -- what a system reads: the level, the lookup, and no bit above
-  pub role-level : (k : Lookup) → role_of l k % 16 ≡ level_of l
+  pub role_level : (k : Lookup) → role_of l k % 16 ≡ level_of l
   unfolding role_of
-  role-level NameAndLevel = let g = level-small in omega arith
-  role-level NameOnly = let g = level-small in omega arith
+  role_level NameAndLevel = let g = level_small in omega arith
+  role_level NameOnly = let g = level_small in omega arith
 
-  pub role-lookup : (k : Lookup) → (role_of l k / 16) * 16 ≡ lookup_bit k
+  pub role_lookup : (k : Lookup) → (role_of l k / 16) * 16 ≡ lookup_bit k
   unfolding role_of
-  role-lookup NameAndLevel = let g = level-small in omega arith
-  role-lookup NameOnly = let g = level-small in omega arith
+  role_lookup NameAndLevel = let g = level_small in omega arith
+  role_lookup NameOnly = let g = level_small in omega arith
 
-  pub role-short : (k : Lookup) → role_of l k < 32
+  pub role_short : (k : Lookup) → role_of l k < 32
   unfolding role_of
-  role-short NameAndLevel = let g = level-small in omega arith
-  role-short NameOnly = let g = level-small in omega arith
+  role_short NameAndLevel = let g = level_small in omega arith
+  role_short NameOnly = let g = level_small in omega arith
 
-  pub role-legal : (k : Lookup) → is_level (role_of l k % 16) ≡ true
-  role-legal k = ap is_level (role-level k) ∙ level-legal l h
+  pub role_legal : (k : Lookup) → is_level (role_of l k % 16) ≡ true
+  role_legal k = ap is_level (role_level k) ∙ level_legal l h
 
 -- 04, the only role that the Rust has, is asked for by level 4 or none, looked up by name and level
 pub role_is_04 : (l : RequestedPrivilege) (k : Lookup) → (role_of l k ≡ 0x04) ↔ ((level_of l ≡ 0x04) × (k ≡ NameAndLevel))

@@ -10,7 +10,7 @@ use Rattle.refusal.specs.Table.{number_of, value_of, among}
 use Rattle.refusal.specs.declared.Refusal.{Refusal}
 use Rattle.refusal.proofs.Order.{then_refuse, then_accept, refuse≢accept, refuse_as}
 use Rattle.octets.specs.Place.{begun}
-use Rattle.octets.proofs.Place.{begun-none}
+use Rattle.octets.proofs.Place.{begun_none}
 use Rattle.session.specs.Record.{closed}
 use Rattle.session.specs.Steps.{Made}
 use Rattle.session.specs.Parts.{refused_at}
@@ -34,13 +34,13 @@ Shuts n = (among n keeping ≡ false) × (eqb n 31 ≡ false)
 abbrev pub Quiet : ℕ → Type 0
 Quiet n = eqb n 31 ≡ false
 
-pub only-accept : {A : Type 0} (P : ℕ → Type 0) (a : A) → Only P (accept a)
-only-accept P a n v e = absurd (refuse≢accept n v a (sym e))
+pub only_accept : {A : Type 0} (P : ℕ → Type 0) (a : A) → Only P (accept a)
+only_accept P a n v e = absurd (refuse≢accept n v a (sym e))
 
-pub only-need : {A : Type 0} (P : ℕ → Type 0) (b : Bool) (n v : ℕ) (r : Res A) → P n → Only P r → Only P (need b n v r)
+pub only_need : {A : Type 0} (P : ℕ → Type 0) (b : Bool) (n v : ℕ) (r : Res A) → P n → Only P r → Only P (need b n v r)
 unfolding need
-only-need P true n v r p h k w e = h k w e
-only-need P false n v r p h k w e = let f : n ≡ k = cc in rw f at p
+only_need P true n v r p h k w e = h k w e
+only_need P false n v r p h k w e = let f : n ≡ k = cc in rw f at p
 
 pub only_then : {A B : Type 0} (P : ℕ → Type 0) (r : Res A) (f : A → Res B) → Only P r → ((a : A) → Only P (f a)) → Only P (and_then r f)
 unfolding and_then
@@ -50,12 +50,12 @@ only_then P (accept a) f h g n v e = g a n v e
 -- a step refused before the message is looked at: the record stays
 pub kept : (R : Res Made) (s : Record) (out : List ℕ) (r : Refusal) (z : Stepped) → R ≡ refuse (number_of r) (value_of r) → Keeps (number_of r)
     → z ≡ refused_at s r → StepPromise R s out z out
-kept R s out r z e k f = rw (e, f) (record { answer = refl; next = rw k.0; len = rw k.1; buffer = rw k.1 (sym (begun-none out)) })
+kept R s out r z e k f = rw (e, f) (record { answer = refl; next = rw k.0; len = rw k.1; buffer = rw k.1 (sym (begun_none out)) })
 
 -- a step refused for the message: the record closes
 pub shut : (R : Res Made) (s : Record) (out : List ℕ) (r : Refusal) (y : Record) (z : Stepped) → R ≡ refuse (number_of r) (value_of r)
     → Shuts (number_of r) → y ≡ closed → z ≡ refused_at y r → StepPromise R s out z out
-shut R s out r y z e k g f = rw (e, f, g) (record { answer = refl; next = rw k.0; len = rw k.1; buffer = rw k.1 (sym (begun-none out)) })
+shut R s out r y z e k g f = rw (e, f, g) (record { answer = refl; next = rw k.0; len = rw k.1; buffer = rw k.1 (sym (begun_none out)) })
 
 -- a refused Begin: the record was closed and is
 pub either_way : (t : Bool) (s : Record) → cond t s s ≡ s
@@ -65,20 +65,20 @@ either_way false s = refl
 pub begin_stop : (R : Res Made) (out : List ℕ) (r : Refusal) (y : Record) (z : Stepped) → R ≡ refuse (number_of r) (value_of r)
     → Quiet (number_of r) → y ≡ closed → z ≡ refused_at y r → StepPromise R closed out z out
 begin_stop R out r y z e k g f =
-    rw (e, f, g) (record { answer = refl; next = sym (either_way (among (number_of r) keeping) closed); len = rw k; buffer = rw k (sym (begun-none out)) })
+    rw (e, f, g) (record { answer = refl; next = sym (either_way (among (number_of r) keeping) closed); len = rw k; buffer = rw k (sym (begun_none out)) })
 
 -- two stages one behind the other
 module _ {A B : Type 0} (T : Res A) (U : Res B) (f : B → Res Made) where
   pub second_stop : (a : A) (n v : ℕ) → T ≡ accept a → U ≡ refuse n v → and_then T (λ _. and_then U f) ≡ refuse n v
   second_stop a n v e g = then_accept T _ a e ∙ then_refuse U f n v g
 
-  pub second-go : (a : A) (b : B) → T ≡ accept a → U ≡ accept b → and_then T (λ _. and_then U f) ≡ f b
-  second-go a b e g = then_accept T _ a e ∙ then_accept U f b g
+  pub second_go : (a : A) (b : B) → T ≡ accept a → U ≡ accept b → and_then T (λ _. and_then U f) ≡ f b
+  second_go a b e g = then_accept T _ a e ∙ then_accept U f b g
 
 pub promise_as : (R Q : Res Made) (s : Record) (out : List ℕ) (r : Stepped) (x : List ℕ) → R ≡ Q → StepPromise Q s out r x → StepPromise R s out r x
 promise_as R Q s out r x e p = rw e p
 
 -- a step that made something
-pub step-made : (M : Made) (s : Record) (out : List ℕ) (st : Record) (n : ℕ) (x : List ℕ) → st ≡ M.next → n ≡ length M.bytes
+pub step_made : (M : Made) (s : Record) (out : List ℕ) (st : Record) (n : ℕ) (x : List ℕ) → st ≡ M.next → n ≡ length M.bytes
     → x ≡ begun M.bytes out → StepPromise (accept M) s out (record { state = st; answer = Done; len = n }) x
-step-made M s out st n x e f g = record { answer = refl; next = e; len = f; buffer = g }
+step_made M s out st n x e f g = record { answer = refl; next = e; len = f; buffer = g }

@@ -52,13 +52,13 @@ pub record Wrote (c : Seen) : Type 0 where
 
 -- what the system makes of the three messages: it takes each, and hears the level, the id, RM, the role and the name
 pub record Hears (y : System) (asked : Asked) (name rm request one three : List ℕ) : Type 0 where
-  pub takes-request : TakesRequest request
+  pub takes_request : TakesRequest request
   pub level : level_in request ≡ level_byte asked.level
   pub console : sidm_in request ≡ asked.console
   pub takes_one : TakesOne y one
   pub random : rm_in one ≡ rm
   pub who : who_in one ≡ who_asked asked name
-  pub takes-three : TakesThree y request one three
+  pub takes_three : TakesThree y request one three
 
 -- a record that is open with the system's id, algorithms and keys, so K1 and the AES key
 pub record Opened (y : System) (one : List ℕ) (s : Record) : Type 0 where
@@ -70,10 +70,10 @@ pub record Opened (y : System) (one : List ℕ) (s : Record) : Type 0 where
 -- every call is done, the system takes what was written, the record opens, and that is the session that is handed out
 pub record Exchange (y : System) (asked : Asked) (name rm : List ℕ) (request one three : Seen) (four : Stepped) (e : Established) : Type 0 where
   pub begins : Wrote request
-  pub accepts-response : Wrote one
-  pub accepts-two : Wrote three
+  pub accepts_response : Wrote one
+  pub accepts_two : Wrote three
   pub hears : Hears y asked name rm (sent request) (sent one) (sent three)
-  pub accepts-four : four.answer ≡ Done
+  pub accepts_four : four.answer ≡ Done
   pub writes_nothing : four.len ≡ 0
   pub opens : Opened y (sent one) four.state
   pub establishes : e.answer ≡ Done
@@ -84,5 +84,5 @@ pub record Refuses (four : Stepped) (e : Established) : Type 0 where
   pub refuses : told four.answer ≡ refuse 32 0
   pub writes_nothing : four.len ≡ 0
   pub closes : four.state ≡ closed
-  pub refuses-session : told e.answer ≡ refuse 33 0
+  pub refuses_session : told e.answer ≡ refuse 33 0
   pub session : e.session ≡ session_with no_keys none_agreed

@@ -27,8 +27,8 @@ pub record Holds (asked : Asked) (name : List ℕ) (s : Record) : Type 0 where
 
 -- the records that the steps make, in any order, after a Begin with this request and this name
 pub data Reached (asked : Asked) (name : List ℕ) : Record → Type 0 where
-  by-begin : (room : ℕ) → Reached asked name (record_after closed (begin_of asked name room))
+  by_begin : (room : ℕ) → Reached asked name (record_after closed (begin_of asked name room))
   by_open : (s : Record) (m rm : List ℕ) (room : ℕ) → Reached asked name s → Reached asked name (record_after s (open_of s m rm room))
   by_two : (most : ℕ) (s : Record) (kg password m : List ℕ) (room : ℕ) → Reached asked name s
       → Reached asked name (record_after s (two_of most s kg password m room))
-  by-four : (s : Record) (m : List ℕ) → Reached asked name s → Reached asked name (record_after s (four_of s m))
+  by_four : (s : Record) (m : List ℕ) → Reached asked name s → Reached asked name (record_after s (four_of s m))

@@ -2,8 +2,8 @@
 use Rattle.std.proofs.Common.{◌≡◌, ℕ, suc, ◌+◌, ◌-◌, ◌*◌, ◌<◌, ◌≤◌, List, ◌++◌, length, get_or, take, set, refl, ◌∙◌, add-one, arith, get_or-take, take-suc-set}
 use Rattle.octets.specs.Bytes.{Bytes}
 use Rattle.octets.specs.Number.{be}
-use Rattle.octets.proofs.Bytes.{bytes-append}
-use Rattle.octets.proofs.Number.{bytes-be}
+use Rattle.octets.proofs.Bytes.{bytes_append}
+use Rattle.octets.proofs.Number.{bytes_be}
 use Rattle.running.specs.Hash.{Sized}
 use Rattle.sha1_block.specs.Word.{word}
 use Rattle.sha1_block.specs.Block.{words, next, more, schedule, round, rounds, added, compress, bytes_of, sha1_hash}
@@ -16,8 +16,8 @@ unfolding words
 words_more w m t x h e p = rw (add-one, take-suc-set w t x h, e, p)
 
 -- W_t looks only at words before t
-next-take : (w : List ℕ) (t : ℕ) → 16 ≤ t → next (take t w) t ≡ next w t
-next-take w t l =
+next_take : (w : List ℕ) (t : ℕ) → 16 ≤ t → next (take t w) t ≡ next w t
+next_take w t l =
     let l₃ : t - 3 < t = omega arith in
     let l₈ : t - 8 < t = omega arith in
     let l₁₄ : t - 14 < t = omega arith in
@@ -30,7 +30,7 @@ unfolding more
 more-more w v t x h l e p =
     let e₁ : t + 1 - 16 ≡ suc (t - 16) = omega arith in
     let e₂ : 16 + (t - 16) ≡ t = omega arith in
-    rw (e₁, add-one, take-suc-set w t x h, e₂, ← e, next-take w t l, p)
+    rw (e₁, add-one, take-suc-set w t x h, e₂, ← e, next_take w t l, p)
 
 pub turns_more : (s t x : ℕ) (w : List ℕ) (h v u : Chain) → v ≡ turns s t w h → x ≡ get_or w (s + t) 0 → u ≡ round (s + t) x v
     → u ≡ turns s (t + 1) w h
@@ -52,11 +52,11 @@ whole h v₁ v₂ v₃ v₄ r w m s p₁ p₂ p₃ p₄ e =
 
 bytes_twenty : (h : Chain) → Bytes (bytes_of h)
 bytes_twenty h =
-    bytes-append (be 4 h.a ++ be 4 h.b ++ be 4 h.c ++ be 4 h.d) (be 4 h.e)
-    (bytes-append (be 4 h.a ++ be 4 h.b ++ be 4 h.c) (be 4 h.d)
-    (bytes-append (be 4 h.a ++ be 4 h.b) (be 4 h.c)
-    (bytes-append (be 4 h.a) (be 4 h.b) (bytes-be 4 h.a) (bytes-be 4 h.b)) (bytes-be 4 h.c)) (bytes-be 4 h.d))
-    (bytes-be 4 h.e)
+    bytes_append (be 4 h.a ++ be 4 h.b ++ be 4 h.c ++ be 4 h.d) (be 4 h.e)
+    (bytes_append (be 4 h.a ++ be 4 h.b ++ be 4 h.c) (be 4 h.d)
+    (bytes_append (be 4 h.a ++ be 4 h.b) (be 4 h.c)
+    (bytes_append (be 4 h.a) (be 4 h.b) (bytes_be 4 h.a) (bytes_be 4 h.b)) (bytes_be 4 h.c)) (bytes_be 4 h.d))
+    (bytes_be 4 h.e)
 
 -- what the laws of a running hash ask of SHA-1
 pub sha1_sized : Sized sha1_hash

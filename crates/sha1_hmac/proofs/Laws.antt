@@ -3,7 +3,7 @@ use Rattle.std.proofs.Common.{◌≡◌, ℕ, ◌+◌, ◌≤◌, Bool, List, �
 use Rattle.octets.specs.Bytes.{Bytes}
 use Rattle.octets.specs.Place.{begun}
 use Rattle.octets.specs.Promise.{PutPromise}
-use Rattle.octets.proofs.Place.{put-done, begun_first}
+use Rattle.octets.proofs.Place.{put_done, begun_first}
 use Rattle.hmac.specs.Count.{ceiling}
 use Rattle.running.specs.Hash.{pad}
 use Rattle.running.proofs.Sizes as sizes
@@ -17,18 +17,18 @@ tail = set (set (set (replicate 64 0) 20 0x80) 62 2) 63 160
 
 pub last_law : (d x : List ℕ) (r : Bool) → length d ≡ 20 → PutPromise tail 0 d r x → x ≡ d ++ pad 84
 unfolding pad begun
-last_law d x r n p = put-done tail 0 d r x p (omega arith) ∙ begun_first d tail ∙ ap (λ (i : ℕ). d ++ drop i tail) n
+last_law d x r n p = put_done tail 0 d r x p (omega arith) ∙ begun_first d tail ∙ ap (λ (i : ℕ). d ++ drop i tail) n
 
 pub sha1-length : (m : List ℕ) → length (sha1 m) ≡ 20
 unfolding sha1_hash
 sha1-length m = sizes.digest-length sha1_hash sha1_sized m
 
-pub mac-length : (k m : List ℕ) → length (hmac_sha1 k m) ≡ 20
+pub mac_length : (k m : List ℕ) → length (hmac_sha1 k m) ≡ 20
 unfolding sha1_hash
-mac-length k m = sizes.mac-length sha1_hash sha1_sized k m
+mac_length k m = sizes.mac_length sha1_hash sha1_sized k m
 
-pub mac-bytes : (k m : List ℕ) → Bytes (hmac_sha1 k m)
-mac-bytes k m = sizes.mac-bytes sha1_hash sha1_sized k m
+pub mac_bytes : (k m : List ℕ) → Bytes (hmac_sha1 k m)
+mac_bytes k m = sizes.mac_bytes sha1_hash sha1_sized k m
 
-pub mac_count-short : (k m : List ℕ) → length k ≤ 64 → hmac_blocks k m ≡ ceiling (length m + 73) 64 + 2
-mac_count-short k m l = sizes.mac_count-short sha1_hash sha1_sized k m l
+pub mac_count_short : (k m : List ℕ) → length k ≤ 64 → hmac_blocks k m ≡ ceiling (length m + 73) 64 + 2
+mac_count_short k m l = sizes.mac_count_short sha1_hash sha1_sized k m l

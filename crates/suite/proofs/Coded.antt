@@ -13,9 +13,9 @@ use Rattle.suite.specs.declared.Code.{Code}
 use Rattle.suite.specs.declared.SubState.{SubState}
 
 module _ (s : SubState) (l : List ℕ) (r : Code) (p : CodePromise s l r) (h : length l ≤ limit) where
-  pub code-right : take (suite_of s).m r.code ≡ (suite_of s).mac l
-  code-right =
+  pub code_right : take (suite_of s).m r.code ≡ (suite_of s).mac l
+  code_right =
       ap (take (suite_of s).m) (p.code ∙ ap (λ (b : Bool). cond b (hmac_sha1 s.keys.k1 l) (replicate longest_code 0)) (le-leb (length l) limit h))
 
-  pub blocks-right : r.blocks ≡ (suite_of s).blocks (length l)
-  blocks-right = p.blocks ∙ ap (λ (b : Bool). cond b (mac_blocks (length l)) 0) (le-leb (length l) limit h)
+  pub blocks_right : r.blocks ≡ (suite_of s).blocks (length l)
+  blocks_right = p.blocks ∙ ap (λ (b : Bool). cond b (mac_blocks (length l)) 0) (le-leb (length l) limit h)

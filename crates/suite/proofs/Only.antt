@@ -35,30 +35,30 @@ typed RakpMessage2 = refl
 typed RakpMessage3 = refl
 typed RakpMessage4 = refl
 
-pub type-one : (t u : PayloadType) → type_number t ≡ type_number u → t ≡ u
-type-one t u e = sym (typed t) ∙ ap type_of e ∙ typed u
+pub type_one : (t u : PayloadType) → type_number t ≡ type_number u → t ≡ u
+type_one t u e = sym (typed t) ∙ ap type_of e ∙ typed u
 
-pub number-only : (κs : _) (args : _) (a b : _) (s t : _) → number-reads.Post κs args a s → number-reads.Post κs args b t → a ≡ b
-number-only κs args a b s t p q = p.0 ∙ sym q.0
+pub number_only : (κs : _) (args : _) (a b : _) (s t : _) → number-reads.Post κs args a s → number-reads.Post κs args b t → a ≡ b
+number_only κs args a b s t p q = p.0 ∙ sym q.0
 
-pub code_len-only : (κs : _) (args : _) (a b : _) (s t : _) → code-len-reads.Post κs args a s → code-len-reads.Post κs args b t → a ≡ b
-code_len-only κs args a b s t p q = p ∙ sym q
+pub code_len_only : (κs : _) (args : _) (a b : _) (s t : _) → code-len-reads.Post κs args a s → code-len-reads.Post κs args b t → a ≡ b
+code_len_only κs args a b s t p q = p ∙ sym q
 
-pub carries_code-only : (κs : _) (args : _) (a b : _) (s t : _) → carries-code-reads.Post κs args a s → carries-code-reads.Post κs args b t → a ≡ b
-carries_code-only κs args a b s t p q = p ∙ sym q
+pub carries_code_only : (κs : _) (args : _) (a b : _) (s t : _) → carries-code-reads.Post κs args a s → carries-code-reads.Post κs args b t → a ≡ b
+carries_code_only κs args a b s t p q = p ∙ sym q
 
-pub encrypts-only : (κs : _) (args : _) (a b : _) (s t : _) → encrypts-reads.Post κs args a s → encrypts-reads.Post κs args b t → a ≡ b
-encrypts-only κs args a b s t p q = p ∙ sym q
+pub encrypts_only : (κs : _) (args : _) (a b : _) (s t : _) → encrypts-reads.Post κs args a s → encrypts-reads.Post κs args b t → a ≡ b
+encrypts_only κs args a b s t p q = p ∙ sym q
 
-pub make_bit-only : (κs : _) (args : _) (a b : _) (s t : _) → make-bit-reads.Post κs args a s → make-bit-reads.Post κs args b t → a ≡ b
-make_bit-only κs args a b s t p q = p ∙ sym q
+pub make_bit_only : (κs : _) (args : _) (a b : _) (s t : _) → make-bit-reads.Post κs args a s → make-bit-reads.Post κs args b t → a ≡ b
+make_bit_only κs args a b s t p q = p ∙ sym q
 
-pub find_longest_packet-only : (κs : _) (args : _) (a b : _) (s t : _)
+pub find_longest_packet_only : (κs : _) (args : _) (a b : _) (s t : _)
     → find-longest-packet-reads.Post κs args a s → find-longest-packet-reads.Post κs args b t → a ≡ b
-find_longest_packet-only κs args a b s t p q = p ∙ sym q
+find_longest_packet_only κs args a b s t p q = p ∙ sym q
 
-pub make_code-only : (κs : _) (args : _) (a b : _) (s t : _) → make-code-reads.Post κs args a s → make-code-reads.Post κs args b t → a ≡ b
-make_code-only κs args a b s t p q =
+pub make_code_only : (κs : _) (args : _) (a b : _) (s t : _) → make-code-reads.Post κs args a s → make-code-reads.Post κs args b t → a ≡ b
+make_code_only κs args a b s t p q =
     let e : a.code ≡ b.code = p.code ∙ sym q.code in
     let f : a.blocks ≡ b.blocks = p.blocks ∙ sym q.blocks in
     λ i. record { code = e i; blocks = f i }

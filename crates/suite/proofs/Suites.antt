@@ -8,8 +8,8 @@ use lib.Seq.{length-take-le}
 use Rattle.octets.specs.Bytes.{Bytes}
 use Rattle.octets.proofs.Bytes.{bytes_take}
 use Rattle.sha1_hmac.specs.Hash.{hmac_sha1}
-use Rattle.sha1_hmac.proofs.Laws.{mac-length}
-use Rattle.cbc.proofs.Inverse.{encrypt-length, decrypt-length, decrypt-bytes, decrypt-encrypt, encrypt-decrypt}
+use Rattle.sha1_hmac.proofs.Laws.{mac_length}
+use Rattle.cbc.proofs.Inverse.{encrypt_length, decrypt_length, decrypt_bytes, decrypt_encrypt, encrypt_decrypt}
 use Rattle.keys.specs.Keys.{aes_key_of}
 use Rattle.framing.specs.Suite.{Laws, Lengths}
 use Rattle.suite.specs.Types.{code_length}
@@ -18,17 +18,17 @@ use Rattle.suite.specs.Session.{suite_of}
 use Rattle.suite.specs.declared.SubState.{SubState}
 use Rattle.suite.specs.declared.Integrity as I
 
-pub code-short : (i : I.Integrity) → code_length i ≤ longest_code
-code-short I.TheVariants.None = omega arith
-code-short I.TheVariants.HmacSha1_96 = omega arith
+pub code_short : (i : I.Integrity) → code_length i ≤ longest_code
+code_short I.TheVariants.None = omega arith
+code_short I.TheVariants.HmacSha1_96 = omega arith
 
-mac-code_length : (s : SubState) (l : List ℕ) → length ((suite_of s).mac l) ≡ code_length s.integrity
-mac-code_length s l =
-    length-take-le (code_length s.integrity) (hmac_sha1 s.keys.k1 l) (omega (arith, mac-length s.keys.k1 l, code-short s.integrity))
+mac_code_length : (s : SubState) (l : List ℕ) → length ((suite_of s).mac l) ≡ code_length s.integrity
+mac_code_length s l =
+    length-take-le (code_length s.integrity) (hmac_sha1 s.keys.k1 l) (omega (arith, mac_length s.keys.k1 l, code_short s.integrity))
 
 -- whatever the algorithms and the keys
 pub suite_lengths : (s : SubState) → Lengths (suite_of s)
-suite_lengths s = record { mac-length = λ _. mac-code_length s; enc-length = λ _. encrypt-length (aes_key_of s.keys) }
+suite_lengths s = record { mac_length = λ _. mac_code_length s; enc_length = λ _. encrypt_length (aes_key_of s.keys) }
 
 -- the same so long as the keys are bytes, as they are in every value of their type
 pub suite_laws : (s : SubState) → Bytes s.keys.k2 → Laws (suite_of s)
@@ -36,10 +36,10 @@ suite_laws s hk =
     let key : List ℕ = aes_key_of s.keys in
     let hb : Bytes key = bytes_take 16 s.keys.k2 hk in
     record {
-      mac-length = mac-code_length s;
-      enc-length = encrypt-length key;
-      dec-length = decrypt-length key;
-      dec-bytes = λ iv l hi bi h bl. decrypt-bytes key iv hb l bi bl;
-      dec-enc = λ iv l hi bi h bl. decrypt-encrypt key iv hb bi l h bl;
-      enc-dec = λ iv l hi bi h bl. encrypt-decrypt key iv hb l h bl;
+      mac_length = mac_code_length s;
+      enc_length = encrypt_length key;
+      dec_length = decrypt_length key;
+      dec_bytes = λ iv l hi bi h bl. decrypt_bytes key iv hb l bi bl;
+      dec_enc = λ iv l hi bi h bl. decrypt_encrypt key iv hb bi l h bl;
+      enc_dec = λ iv l hi bi h bl. encrypt_decrypt key iv hb l h bl;
     }

@@ -15,8 +15,8 @@ use Rattle.octets.proofs.Order.{eq_or_not}
 use Rattle.text.specs.Fields.{upto, on_first, cut}
 
 -- at a separator the field ends
-pub upto-here : (c : ℕ) (l : List ℕ) (i : ℕ) → i < length l → get_or l i 0 ≡ c → length (upto c (drop i l)) ≡ 0
-upto-here c l i h e = ap (λ (q : List ℕ). length (upto c q)) (drop-cons l i 0 h) ∙ rw (eq-eqb (get_or l i 0) c e)
+pub upto_here : (c : ℕ) (l : List ℕ) (i : ℕ) → i < length l → get_or l i 0 ≡ c → length (upto c (drop i l)) ≡ 0
+upto_here c l i h e = ap (λ (q : List ℕ). length (upto c q)) (drop-cons l i 0 h) ∙ rw (eq-eqb (get_or l i 0) c e)
 
 -- at another character it goes on
 pub upto-more : (c : ℕ) (l : List ℕ) (i : ℕ) → i < length l → (get_or l i 0 ≡ c → ⊥)
@@ -26,8 +26,8 @@ upto-more c l i h n =
     ∙ rw (ne_eqb (get_or l i 0) c n, add-one)
 
 -- past the end nothing is left
-pub upto-past : (c : ℕ) (l : List ℕ) (i : ℕ) → length l ≤ i → length (upto c (drop i l)) ≡ 0
-upto-past c l i h = ap (λ (q : List ℕ). length (upto c q)) (drop_of_length-le l h)
+pub upto_past : (c : ℕ) (l : List ℕ) (i : ℕ) → length l ≤ i → length (upto c (drop i l)) ≡ 0
+upto_past c l i h = ap (λ (q : List ℕ). length (upto c q)) (drop_of_length-le l h)
 
 -- there is at least one field
 pub cut_some : (c : ℕ) (l : List ℕ) → 0 < length (cut c l)
@@ -43,8 +43,8 @@ on_first-length : (x : ℕ) (fs : List (List ℕ)) → 0 < length fs → length 
 on_first-length x [] h = absurd (omega arith)
 on_first-length x (f ∷ fs) h = refl
 
-pub cut-here : (c : ℕ) (l : List ℕ) (i : ℕ) → i < length l → get_or l i 0 ≡ c → length (cut c (drop i l)) ≡ suc (length (cut c (drop (i + 1) l)))
-cut-here c l i h e =
+pub cut_here : (c : ℕ) (l : List ℕ) (i : ℕ) → i < length l → get_or l i 0 ≡ c → length (cut c (drop i l)) ≡ suc (length (cut c (drop (i + 1) l)))
+cut_here c l i h e =
     ap (λ (q : List ℕ). length (cut c q)) (drop-cons l i 0 h)
     ∙ rw (eq-eqb (get_or l i 0) c e, add-one)
 
@@ -56,8 +56,8 @@ cut-more c l i h n =
     ∙ on_first-length (get_or l i 0) (cut c (drop (suc i) l)) (cut_some c (drop (suc i) l))
     ∙ ap (λ (k : ℕ). length (cut c (drop k l))) (sym (add-one i))
 
-pub cut-past : (c : ℕ) (l : List ℕ) (i : ℕ) → length l ≤ i → length (cut c (drop i l)) ≡ 1
-cut-past c l i h = ap (λ (q : List ℕ). length (cut c q)) (drop_of_length-le l h)
+pub cut_past : (c : ℕ) (l : List ℕ) (i : ℕ) → length l ≤ i → length (cut c (drop i l)) ≡ 1
+cut_past c l i h = ap (λ (q : List ℕ). length (cut c q)) (drop_of_length-le l h)
 
 -- the first field and the others, by the test of the first character
 module _ (c x : ℕ) (l : List ℕ) where
@@ -79,9 +79,9 @@ upto_take c (x ∷ l) =
     (eq_or_not x c)
 
 -- a line in which a separator stands: the first field, and the fields after that separator
-cut-first : (c : ℕ) (l : List ℕ) → length (upto c l) < length l → cut c l ≡ upto c l ∷ cut c (drop (suc (length (upto c l))) l)
-cut-first c [] h = absurd (omega arith)
-cut-first c (x ∷ l) h =
+cut_first : (c : ℕ) (l : List ℕ) → length (upto c l) < length l → cut c l ≡ upto c l ∷ cut c (drop (suc (length (upto c l))) l)
+cut_first c [] h = absurd (omega arith)
+cut_first c (x ∷ l) h =
     ⊎_elim
     (λ (e : x ≡ c).
     let s = stops c x l e in
@@ -90,20 +90,20 @@ cut-first c (x ∷ l) h =
     let s = goes c x l n in
     let k : length (upto c l) < length l = omega (arith, ap length s.0) in
     s.1
-    ∙ ap (on_first x) (cut-first c l k)
+    ∙ ap (on_first x) (cut_first c l k)
     ∙ ap (λ (q : List ℕ). q ∷ cut c (drop (suc (length q)) (x ∷ l))) (sym s.0))
     (eq_or_not x c)
 
 -- a line in which none does is one field
-cut-only : (c : ℕ) (l : List ℕ) → length l ≤ length (upto c l) → cut c l ≡ upto c l ∷ []
-cut-only c [] h = refl
-cut-only c (x ∷ l) h =
+cut_only : (c : ℕ) (l : List ℕ) → length l ≤ length (upto c l) → cut c l ≡ upto c l ∷ []
+cut_only c [] h = refl
+cut_only c (x ∷ l) h =
     ⊎_elim
     (λ (e : x ≡ c). absurd (omega (arith, ap length (stops c x l e).0)))
     (λ (n : x ≡ c → ⊥).
     let s = goes c x l n in
     let k : length l ≤ length (upto c l) = omega (arith, ap length s.0) in
-    s.1 ∙ ap (on_first x) (cut-only c l k) ∙ ap (λ (q : List ℕ). q ∷ []) (sym s.0))
+    s.1 ∙ ap (on_first x) (cut_only c l k) ∙ ap (λ (q : List ℕ). q ∷ []) (sym s.0))
     (eq_or_not x c)
 
 -- The fields from a place on: the one that starts there and ends where `field_end` says, and then those from behind its
@@ -116,10 +116,10 @@ module _ (c i : ℕ) (l : List ℕ) (e : ℕ) (f : e ≡ i + length (upto c (dro
   walk_on h =
       let k : length (upto c (drop i l)) < length (drop i l) = omega (arith, length-drop i l) in
       let o : i + suc (length (upto c (drop i l))) ≡ e + 1 = omega arith in
-      cut-first c (drop i l) k
+      cut_first c (drop i l) k
       ∙ ap₂ (λ (p q : List ℕ). p ∷ cut c q) first (drop-drop (suc (length (upto c (drop i l)))) i l ∙ ap (λ (n : ℕ). drop n l) o)
 
   pub walk_end : length l ≤ e → cut c (drop i l) ≡ part l i (e - i) ∷ []
   walk_end h =
       let k : length (drop i l) ≤ length (upto c (drop i l)) = omega (arith, length-drop i l) in
-      cut-only c (drop i l) k ∙ ap (λ (p : List ℕ). p ∷ []) first
+      cut_only c (drop i l) k ∙ ap (λ (p : List ℕ). p ∷ []) first

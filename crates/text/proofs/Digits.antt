@@ -15,9 +15,9 @@ pub digit_high : (d : ℕ) → 10 ≤ d → digit d ≡ 87 + d
 unfolding digit
 digit_high d h = rw (le-ltb d 10 h)
 
-pub worth-below : (c : ℕ) → c < 48 → worth c ≡ 16
+pub worth_below : (c : ℕ) → c < 48 → worth c ≡ 16
 unfolding worth
-worth-below c h =
+worth_below c h =
     let k : c < 97 = omega arith in
     rw (lt-leb 48 c h, lt-leb 97 c k)
 
@@ -38,9 +38,9 @@ worth_high c h k =
     let m : 57 < c = omega arith in
     rw (le-leb 48 c l, lt-leb c 57 m, le-leb 97 c h, le-leb c 102 k)
 
-pub worth-above : (c : ℕ) → 102 < c → worth c ≡ 16
+pub worth_above : (c : ℕ) → 102 < c → worth c ≡ 16
 unfolding worth
-worth-above c h =
+worth_above c h =
     let l : 48 ≤ c = omega arith in
     let m : 57 < c = omega arith in
     let n : 97 ≤ c = omega arith in
@@ -51,7 +51,7 @@ by_place : (c : ℕ) (P : ℕ → Type 0) → (c < 48 → P 16) → (48 ≤ c �
     → (97 ≤ c → c ≤ 102 → P (c - 87)) → (102 < c → P 16) → P (worth c)
 by_place c P a b d e f =
     ⊎_elim
-    (λ (h : c < 48). rw (worth-below c h) (a h))
+    (λ (h : c < 48). rw (worth_below c h) (a h))
     (λ (h : 48 ≤ c).
     ⊎_elim
     (λ (k : 57 < c).
@@ -59,7 +59,7 @@ by_place c P a b d e f =
     (λ (l : c < 97). rw (worth_mid c k l) (d k l))
     (λ (l : 97 ≤ c).
     ⊎_elim
-    (λ (m : 102 < c). rw (worth-above c m) (f m))
+    (λ (m : 102 < c). rw (worth_above c m) (f m))
     (λ (m : c ≤ 102). rw (worth_high c l m) (e l m))
     (lt_or_le 102 c))
     (lt_or_le c 97))

@@ -21,42 +21,42 @@ pub add_promise_only : (d : List ℕ) (c : Cursor) (m : List ℕ) (a b : Cursor)
     → AddPromise d c m a x → AddPromise d c m b y → (a ≡ b) × (x ≡ y)
 add_promise_only d c m a b x y p q = (p.cursor ∙ sym q.cursor, p.buffer ∙ sym q.buffer)
 
-pub add-only : (κs : _) (args : _) (a b : _) (s t : _)
+pub add_only : (κs : _) (args : _) (a b : _) (s t : _)
     → add-reads.Post κs args a s → add-reads.Post κs args b t → (a ≡ b) × (s.0.now ≡ t.0.now)
-add-only κs args a b s t p q = add_promise_only _ _ _ a b _ _ p q
+add_only κs args a b s t p q = add_promise_only _ _ _ a b _ _ p q
 
-pub decimal-only : (κs : _) (args : _) (a b : _) (s t : _)
+pub decimal_only : (κs : _) (args : _) (a b : _) (s t : _)
     → decimal-reads.Post κs args a s → decimal-reads.Post κs args b t → (a ≡ b) × (s.0.now ≡ t.0.now)
-decimal-only κs args a b s t p q = add_promise_only _ _ _ a b _ _ p q
+decimal_only κs args a b s t p q = add_promise_only _ _ _ a b _ _ p q
 
-pub hex-only : (κs : _) (args : _) (a b : _) (s t : _)
+pub hex_only : (κs : _) (args : _) (a b : _) (s t : _)
     → hex-reads.Post κs args a s → hex-reads.Post κs args b t → (a ≡ b) × (s.0.now ≡ t.0.now)
-hex-only κs args a b s t p q = add_promise_only _ _ _ a b _ _ p q
+hex_only κs args a b s t p q = add_promise_only _ _ _ a b _ _ p q
 
-pub hex8-only : (κs : _) (args : _) (a b : _) (s t : _)
+pub hex8_only : (κs : _) (args : _) (a b : _) (s t : _)
     → hex8-reads.Post κs args a s → hex8-reads.Post κs args b t → (a ≡ b) × (s.0.now ≡ t.0.now)
-hex8-only κs args a b s t p q = add_promise_only _ _ _ a b _ _ p q
+hex8_only κs args a b s t p q = add_promise_only _ _ _ a b _ _ p q
 
-pub packet_line-only : (κs : _) (args : _) (a b : _) (s t : _)
+pub packet_line_only : (κs : _) (args : _) (a b : _) (s t : _)
     → packet-line-reads.Post κs args a s → packet-line-reads.Post κs args b t → (a ≡ b) × (s.0.now ≡ t.0.now)
-packet_line-only κs args a b s t p q = add_promise_only _ _ _ a b _ _ p q
+packet_line_only κs args a b s t p q = add_promise_only _ _ _ a b _ _ p q
 
-pub unhex-only : (κs : _) (args : _) (a b : _) (s t : _)
+pub unhex_only : (κs : _) (args : _) (a b : _) (s t : _)
     → unhex-reads.Post κs args a s → unhex-reads.Post κs args b t → (a ≡ b) × (s.0.now ≡ t.0.now)
-unhex-only κs args a b s t p q = (p.answer ∙ sym q.answer, p.buffer ∙ sym q.buffer)
+unhex_only κs args a b s t p q = (p.answer ∙ sym q.answer, p.buffer ∙ sym q.buffer)
 
-pub undecimal-only : (κs : _) (args : _) (a b : _) (s t : _)
+pub undecimal_only : (κs : _) (args : _) (a b : _) (s t : _)
     → undecimal-reads.Post κs args a s → undecimal-reads.Post κs args b t → a ≡ b
-undecimal-only κs args a b s t p q = p ∙ sym q
+undecimal_only κs args a b s t p q = p ∙ sym q
 
-pub unhex8-only : (κs : _) (args : _) (a b : _) (s t : _)
+pub unhex8_only : (κs : _) (args : _) (a b : _) (s t : _)
     → unhex8-reads.Post κs args a s → unhex8-reads.Post κs args b t → a ≡ b
-unhex8-only κs args a b s t p q = p ∙ sym q
+unhex8_only κs args a b s t p q = p ∙ sym q
 
-pub field_end-only : (κs : _) (args : _) (a b : _) (s t : _)
+pub field_end_only : (κs : _) (args : _) (a b : _) (s t : _)
     → field-end-reads.Post κs args a s → field-end-reads.Post κs args b t → a ≡ b
-field_end-only κs args a b s t p q = p ∙ sym q
+field_end_only κs args a b s t p q = p ∙ sym q
 
-pub fields-only : (κs : _) (args : _) (a b : _) (s t : _)
+pub fields_only : (κs : _) (args : _) (a b : _) (s t : _)
     → fields-reads.Post κs args a s → fields-reads.Post κs args b t → a ≡ b
-fields-only κs args a b s t p q = p ∙ sym q
+fields_only κs args a b s t p q = p ∙ sym q

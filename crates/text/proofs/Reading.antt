@@ -29,10 +29,10 @@ value_least b v (c ∷ s) h = omega (arith, le-mul_of_pos_right v h, value_least
 unfoldable pub left : ℕ → ℕ → ℕ → List ℕ → Number
 left b most v l = cond (digits b l && leb (value b v l) most) (number.Value (value b v l)) number.Bad
 
-pub number-none : (b most : ℕ) (s : List ℕ) → length s ≡ 0 → number_in b most s ≡ number.Bad
+pub number_none : (b most : ℕ) (s : List ℕ) → length s ≡ 0 → number_in b most s ≡ number.Bad
 unfolding number_in numeral
-number-none b most [] e = refl
-number-none b most (c ∷ s) e = absurd (omega arith)
+number_none b most [] e = refl
+number_none b most (c ∷ s) e = absurd (omega arith)
 
 pub number_some : (b most : ℕ) (s : List ℕ) → (length s ≡ 0 → ⊥) → number_in b most s ≡ left b most 0 s
 unfolding number_in numeral left
@@ -42,9 +42,9 @@ number_some b most (c ∷ s) n =
     (lt-ltb 0 (length (c ∷ s)) (omega arith))
 
 -- a character that is no digit
-left-none : (b most v c : ℕ) (l : List ℕ) → b ≤ worth c → left b most v (c ∷ l) ≡ number.Bad
+left_none : (b most v c : ℕ) (l : List ℕ) → b ≤ worth c → left b most v (c ∷ l) ≡ number.Bad
 unfolding left
-left-none b most v c l h = rw (le-ltb (worth c) b h)
+left_none b most v c l h = rw (le-ltb (worth c) b h)
 
 -- a number that is too large, whatever follows
 left_over : (b most v c : ℕ) (l : List ℕ) → 0 < b → most < v * b + worth c → left b most v (c ∷ l) ≡ number.Bad
@@ -55,9 +55,9 @@ left_over b most v c l g h =
     ap (λ (t : Bool). cond ((ltb (worth c) b && digits b l) && t) (number.Value w) number.Bad) (lt-leb w most k)
     ∙ ap (λ (t : Bool). cond t (number.Value w) number.Bad) (and-false (ltb (worth c) b && digits b l))
 
-left-on : (b most v c : ℕ) (l : List ℕ) → worth c < b → left b most v (c ∷ l) ≡ left b most (v * b + worth c) l
+left_on : (b most v c : ℕ) (l : List ℕ) → worth c < b → left b most v (c ∷ l) ≡ left b most (v * b + worth c) l
 unfolding left
-left-on b most v c l h = rw (lt-ltb (worth c) b h)
+left_on b most v c l h = rw (lt-ltb (worth c) b h)
 
 left_end : (b most v : ℕ) → v ≤ most → left b most v [] ≡ number.Value v
 unfolding left
@@ -69,7 +69,7 @@ module _ (b most v i : ℕ) (s : List ℕ) (r : Number) (e : left b most v (drop
 
   -- the ways out of a turn, and on
   pub stop_none : i < length s → b ≤ worth (get_or s i 0) → number.Bad ≡ r
-  stop_none h k = sym (left-none b most v (get_or s i 0) (drop (suc i) s) k) ∙ here h
+  stop_none h k = sym (left_none b most v (get_or s i 0) (drop (suc i) s) k) ∙ here h
 
   pub stop_over : i < length s → 0 < b → most < v * b + worth (get_or s i 0) → number.Bad ≡ r
   stop_over h g k = sym (left_over b most v (get_or s i 0) (drop (suc i) s) g k) ∙ here h
@@ -77,7 +77,7 @@ module _ (b most v i : ℕ) (s : List ℕ) (r : Number) (e : left b most v (drop
   pub go_on : i < length s → worth (get_or s i 0) < b → left b most (v * b + worth (get_or s i 0)) (drop (i + 1) s) ≡ r
   go_on h k =
       ap (λ (j : ℕ). left b most (v * b + worth (get_or s i 0)) (drop j s)) (add-one i)
-      ∙ sym (left-on b most v (get_or s i 0) (drop (suc i) s) k)
+      ∙ sym (left_on b most v (get_or s i 0) (drop (suc i) s) k)
       ∙ here h
 
   pub at_end : length s ≤ i → v ≤ most → number.Value v ≡ r
@@ -91,9 +91,9 @@ pub within : (b most v w : ℕ) → 0 < b → w ≤ most → v ≤ (most - w) / 
 within b most v w g h k = omega (arith, (le-div_iff_mul-le g).0 k)
 
 -- a number that was read is within its bound
-pub number-most : (b most v : ℕ) (s : List ℕ) → number.Value v ≡ number_in b most s → v ≤ most
+pub number_most : (b most v : ℕ) (s : List ℕ) → number.Value v ≡ number_in b most s → v ≤ most
 unfolding number_in
-number-most b most v s e = by_tests (numeral b s) (leb (value b 0 s) most) refl e
+number_most b most v s e = by_tests (numeral b s) (leb (value b 0 s) most) refl e
   where
     by_tests : (t u : Bool) → leb (value b 0 s) most ≡ u → number.Value v ≡ cond (t && u) (number.Value (value b 0 s)) number.Bad → v ≤ most
     by_tests true true f g = let h : v ≡ value b 0 s = cc in omega (arith, leb-true (value b 0 s) most f)
@@ -101,29 +101,29 @@ number-most b most v s e = by_tests (numeral b s) (leb (value b 0 s) most) refl 
     by_tests false u f g = let z : ◌≡◌ {A = ℕ} 0 1 = cc in absurd (omega arith)
 
 -- whether all characters are digits, from a place on
-pub digits-none : (b i : ℕ) (s : List ℕ) (r : Bool) → digits b (drop i s) ≡ r → i < length s → b ≤ worth (get_or s i 0) → false ≡ r
-digits-none b i s r e h k = sym (ap (digits b) (drop-cons s i 0 h) ∙ rw (le-ltb (worth (get_or s i 0)) b k)) ∙ e
+pub digits_none : (b i : ℕ) (s : List ℕ) (r : Bool) → digits b (drop i s) ≡ r → i < length s → b ≤ worth (get_or s i 0) → false ≡ r
+digits_none b i s r e h k = sym (ap (digits b) (drop-cons s i 0 h) ∙ rw (le-ltb (worth (get_or s i 0)) b k)) ∙ e
 
-pub digits-on : (b i : ℕ) (s : List ℕ) (r : Bool) → digits b (drop i s) ≡ r → i < length s → worth (get_or s i 0) < b → digits b (drop (i + 1) s) ≡ r
-digits-on b i s r e h k =
+pub digits_on : (b i : ℕ) (s : List ℕ) (r : Bool) → digits b (drop i s) ≡ r → i < length s → worth (get_or s i 0) < b → digits b (drop (i + 1) s) ≡ r
+digits_on b i s r e h k =
     ap (λ (j : ℕ). digits b (drop j s)) (add-one i) ∙ sym (ap (digits b) (drop-cons s i 0 h) ∙ rw (lt-ltb (worth (get_or s i 0)) b k)) ∙ e
 
 pub digits_end : (b i : ℕ) (s : List ℕ) (r : Bool) → digits b (drop i s) ≡ r → length s ≤ i → true ≡ r
 digits_end b i s r e h = ap (digits b) (sym (drop_of_length-le s h)) ∙ e
 
 -- digits: the first is one, and so are the others
-pub digits-both : (b c : ℕ) (s : List ℕ) → digits b (c ∷ s) ≡ true → (worth c < b) × (digits b s ≡ true)
-digits-both b c s e = by-test (ltb (worth c) b) refl e
+pub digits_both : (b c : ℕ) (s : List ℕ) → digits b (c ∷ s) ≡ true → (worth c < b) × (digits b s ≡ true)
+digits_both b c s e = by_test (ltb (worth c) b) refl e
   where
-    by-test : (t : Bool) → ltb (worth c) b ≡ t → (t && digits b s) ≡ true → (worth c < b) × (digits b s ≡ true)
-    by-test true f g = (ltb-true (worth c) b f, g)
-    by-test false f g = let z : ◌≡◌ {A = ℕ} 0 1 = cc in absurd (omega arith)
+    by_test : (t : Bool) → ltb (worth c) b ≡ t → (t && digits b s) ≡ true → (worth c < b) × (digits b s ≡ true)
+    by_test true f g = (ltb-true (worth c) b f, g)
+    by_test false f g = let z : ◌≡◌ {A = ℕ} 0 1 = cc in absurd (omega arith)
 
 -- each character of digits is one
 pub digits-at : (b i : ℕ) (s : List ℕ) → digits b s ≡ true → i < length s → worth (get_or s i 0) < b
 digits-at b i [] e h = absurd (omega arith)
-digits-at b zero (c ∷ s) e h = (digits-both b c s e).0
-digits-at b (suc i) (c ∷ s) e h = digits-at b i s (digits-both b c s e).1 (omega arith)
+digits-at b zero (c ∷ s) e h = (digits_both b c s e).0
+digits-at b (suc i) (c ∷ s) e h = digits-at b i s (digits_both b c s e).1 (omega arith)
 
 -- pairs are half as many as their characters
 pub length_pairs : (s : List ℕ) → length (pairs s) ≡ length s / 2
@@ -136,8 +136,8 @@ pairs-snoc [] h l e = refl
 pairs-snoc (a ∷ []) h l e = absurd (omega arith)
 pairs-snoc (a ∷ b ∷ x) h l e = ap (λ (q : List ℕ). (16 * worth a + worth b) ∷ q) (pairs-snoc x h l (omega arith))
 
-take-two : (s : List ℕ) (j : ℕ) → suc j < length s → take (suc (suc j)) s ≡ take j s ++ (get_or s j 0 ∷ get_or s (suc j) 0 ∷ [])
-take-two s j h =
+take_two : (s : List ℕ) (j : ℕ) → suc j < length s → take (suc (suc j)) s ≡ take j s ++ (get_or s j 0 ∷ get_or s (suc j) 0 ∷ [])
+take_two s j h =
     take-suc s (suc j) 0 h
     ∙ ap (λ (q : List ℕ). q ++ (get_or s (suc j) 0 ∷ [])) (take-suc s j 0 (omega arith))
     ∙ append_assoc (take j s) _ _
@@ -156,7 +156,7 @@ pair_turn x d s a i v e h k f =
     ap (λ (u : List ℕ). set u (a + i) v) e
     ∙ pasted-more d (pairs t) a i v n q
     ∙ ap (λ (u : ℕ). pasted d a (pairs t ++ (u ∷ []))) (f ∙ ap (λ (j : ℕ). 16 * worth (get_or s (2 * i) 0) + worth (get_or s j 0)) (add-one (2 * i)))
-    ∙ ap (pasted d a) (sym (pairs-snoc t _ _ p) ∙ ap pairs (sym (take-two s (2 * i) (omega arith)) ∙ ap (λ (j : ℕ). take j s) o))
+    ∙ ap (pasted d a) (sym (pairs-snoc t _ _ p) ∙ ap pairs (sym (take_two s (2 * i) (omega arith)) ∙ ap (λ (j : ℕ). take j s) o))
 
 -- whether the characters are bytes in hex
 pub hexed_odd : (s : List ℕ) → (length s % 2 ≡ 0 → ⊥) → hexed s ≡ false
@@ -167,9 +167,9 @@ pub hexed-not : (s : List ℕ) → digits 16 s ≡ false → hexed s ≡ false
 unfolding hexed
 hexed-not s e = ap (λ (t : Bool). eqb (length s % 2) 0 && t) e ∙ and-false (eqb (length s % 2) 0)
 
-pub hexed-yes : (s : List ℕ) → length s % 2 ≡ 0 → digits 16 s ≡ true → hexed s ≡ true
+pub hexed_yes : (s : List ℕ) → length s % 2 ≡ 0 → digits 16 s ≡ true → hexed s ≡ true
 unfolding hexed
-hexed-yes s e f = ap₂ ◌&&◌ (eq-eqb (length s % 2) 0 e) f
+hexed_yes s e f = ap₂ ◌&&◌ (eq-eqb (length s % 2) 0 e) f
 
 -- the ways out of reading bytes
 pub unhex_bad : (d : List ℕ) (a : ℕ) (s : List ℕ) → hexed s ≡ false → UnhexPromise d a s unhexed.Bad d
@@ -180,9 +180,9 @@ unhex_full d a s e h =
     let k : length d < a + length (pairs s) = omega (arith, length_pairs s) in
     record { answer = rw (e, lt-leb (a + length (pairs s)) (length d) k); buffer = rw e (sym (placed-not d a (pairs s) k)) }
 
-pub unhex-done : (d : List ℕ) (a : ℕ) (s x : List ℕ) → hexed s ≡ true → a + length s / 2 ≤ length d → x ≡ pasted d a (pairs s)
+pub unhex_done : (d : List ℕ) (a : ℕ) (s x : List ℕ) → hexed s ≡ true → a + length s / 2 ≤ length d → x ≡ pasted d a (pairs s)
     → UnhexPromise d a s (unhexed.Bytes (length s / 2)) x
-unhex-done d a s x e h f =
+unhex_done d a s x e h f =
     let k : a + length (pairs s) ≤ length d = omega (arith, length_pairs s) in
     record {
       answer = rw (e, le-leb (a + length (pairs s)) (length d) k) (ap unhexed.Bytes (sym (length_pairs s)));
@@ -190,30 +190,30 @@ unhex-done d a s x e h f =
     }
 
 -- digits in hex say a number below the power of sixteen that has as many zeros
-value-below : (v : ℕ) (s : List ℕ) → digits 16 s ≡ true → value 16 v s < (v + 1) * 16 ^ length s
-value-below v [] e = omega arith
-value-below v (c ∷ s) e =
-    let d = digits-both 16 c s e in
+value_below : (v : ℕ) (s : List ℕ) → digits 16 s ≡ true → value 16 v s < (v + 1) * 16 ^ length s
+value_below v [] e = omega arith
+value_below v (c ∷ s) e =
+    let d = digits_both 16 c s e in
     let w : ℕ = v * 16 + worth c in
     let p : ℕ = 16 ^ length s in
     let h : w + 1 ≤ (v + 1) * 16 = omega (arith, d.0) in
-    omega (arith, value-below w s d.1, mul-le-mul_right p h, mul_assoc (v + 1) 16 p, ap (λ (k : ℕ). (v + 1) * k) (pow-succ' 16 (length s)))
+    omega (arith, value_below w s d.1, mul-le-mul_right p h, mul_assoc (v + 1) 16 p, ap (λ (k : ℕ). (v + 1) * k) (pow-succ' 16 (length s)))
 
 -- eight characters: a number exactly where all are digits
 word_number : (s : List ℕ) → length s ≡ 8 → number_in 16 0xffff_ffff s ≡ cond (digits 16 s) (number.Value (value 16 0 s)) number.Bad
 unfolding number_in numeral
-word_number s e = by-test (digits 16 s) refl
+word_number s e = by_test (digits 16 s) refl
   where
     big : digits 16 s ≡ true → value 16 0 s ≤ 0xffff_ffff
-    big f = let p : 16 ^ length s ≡ 16 ^ 8 = ap (λ (k : ℕ). 16 ^ k) e in omega (arith, value-below 0 s f)
+    big f = let p : 16 ^ length s ≡ 16 ^ 8 = ap (λ (k : ℕ). 16 ^ k) e in omega (arith, value_below 0 s f)
 
-    by-test : (t : Bool) → digits 16 s ≡ t
+    by_test : (t : Bool) → digits 16 s ≡ t
         → cond (ltb 0 (length s) && t && leb (value 16 0 s) 0xffff_ffff) (number.Value (value 16 0 s)) number.Bad
         ≡ cond t (number.Value (value 16 0 s)) number.Bad
-    by-test true f =
+    by_test true f =
         let h : 0 < length s = omega arith in
         rw (lt-ltb 0 (length s) h, le-leb (value 16 0 s) 0xffff_ffff (big f))
-    by-test false f = let h : 0 < length s = omega arith in rw (lt-ltb 0 (length s) h)
+    by_test false f = let h : 0 < length s = omega arith in rw (lt-ltb 0 (length s) h)
 
 pub word-not : (s : List ℕ) → (length s ≡ 8 → ⊥) → word.Bad ≡ word_in s
 unfolding word_in
@@ -222,21 +222,21 @@ word-not s n = rw (ne_eqb (length s) 8 n)
 pub word_value : (s : List ℕ) (v : ℕ) → length s ≡ 8 → number.Value v ≡ number_in 16 0xffff_ffff s → word.Value v ≡ word_in s
 unfolding word_in
 word_value s v e f =
-    by-test (digits 16 s) (f ∙ word_number s e)
+    by_test (digits 16 s) (f ∙ word_number s e)
     ∙ ap (λ (t : Bool). cond (t && digits 16 s) (word.Value (value 16 0 s)) word.Bad) (sym (eq-eqb (length s) 8 e))
   where
-    by-test : (t : Bool) → number.Value v ≡ cond t (number.Value (value 16 0 s)) number.Bad
+    by_test : (t : Bool) → number.Value v ≡ cond t (number.Value (value 16 0 s)) number.Bad
         → word.Value v ≡ cond t (word.Value (value 16 0 s)) word.Bad
-    by-test true g = let h : v ≡ value 16 0 s = cc in ap word.Value h
-    by-test false g = let z : ◌≡◌ {A = ℕ} 0 1 = cc in absurd (omega arith)
+    by_test true g = let h : v ≡ value 16 0 s = cc in ap word.Value h
+    by_test false g = let z : ◌≡◌ {A = ℕ} 0 1 = cc in absurd (omega arith)
 
 pub word_bad : (s : List ℕ) → length s ≡ 8 → number.Bad ≡ number_in 16 0xffff_ffff s → word.Bad ≡ word_in s
 unfolding word_in
 word_bad s e f =
-    by-test (digits 16 s) (f ∙ word_number s e)
+    by_test (digits 16 s) (f ∙ word_number s e)
     ∙ ap (λ (t : Bool). cond (t && digits 16 s) (word.Value (value 16 0 s)) word.Bad) (sym (eq-eqb (length s) 8 e))
   where
-    by-test : (t : Bool) → number.Bad ≡ cond t (number.Value (value 16 0 s)) number.Bad
+    by_test : (t : Bool) → number.Bad ≡ cond t (number.Value (value 16 0 s)) number.Bad
         → word.Bad ≡ cond t (word.Value (value 16 0 s)) word.Bad
-    by-test true g = let z : ◌≡◌ {A = ℕ} 0 1 = cc in absurd (omega arith)
-    by-test false g = refl
+    by_test true g = let z : ◌≡◌ {A = ℕ} 0 1 = cc in absurd (omega arith)
+    by_test false g = refl

@@ -16,7 +16,7 @@ use Rattle.octets.proofs.Place.{pasted-more, drop-set}
 use Rattle.text.specs.Digits.{digit, decimal, hex, hex8}
 use Rattle.text.specs.Promise.{takes, AddPromise}
 use Rattle.text.specs.declared.write.Cursor.{Cursor}
-use Rattle.text.proofs.Tens.{decimal-small, decimal-more, decimal_some}
+use Rattle.text.proofs.Tens.{decimal_small, decimal-more, decimal_some}
 
 -- a full cursor takes nothing
 pub takes_full : (c : Cursor) (m n : ℕ) → c.full ≡ true → takes c m n ≡ false
@@ -24,14 +24,14 @@ unfolding takes
 takes_full c m n e = ap (λ (t : Bool). not t && leb (c.at + n) m) e
 
 -- nor does one without the room
-pub takes-short : (c : Cursor) (m n : ℕ) → m < c.at + n → takes c m n ≡ false
+pub takes_short : (c : Cursor) (m n : ℕ) → m < c.at + n → takes c m n ≡ false
 unfolding takes
-takes-short c m n h = ap (λ (t : Bool). not c.full && t) (lt-leb (c.at + n) m h) ∙ and-false (not c.full)
+takes_short c m n h = ap (λ (t : Bool). not c.full && t) (lt-leb (c.at + n) m h) ∙ and-false (not c.full)
 
 -- any other goes by the room
-pub takes-room : (c : Cursor) (m n : ℕ) → c.full ≡ false → n ≤ m → leb c.at (m - n) ≡ takes c m n
+pub takes_room : (c : Cursor) (m n : ℕ) → c.full ≡ false → n ≤ m → leb c.at (m - n) ≡ takes c m n
 unfolding takes
-takes-room c m n e h =
+takes_room c m n e h =
     ⊎_elim
     (λ (k : m < c.at + n).
     lt-leb c.at (m - n) (omega arith) ∙ sym (ap (λ (t : Bool). not t && leb (c.at + n) m) e ∙ lt-leb (c.at + n) m k))
@@ -49,14 +49,14 @@ unfolding takes
 takes-fits c m n e = by_flag c.full c m n e
 
 -- a piece that went in
-pub add-yes : (d : List ℕ) (c : Cursor) (s x : List ℕ) → takes c (length d) (length s) ≡ true → x ≡ pasted d c.at s
+pub add_yes : (d : List ℕ) (c : Cursor) (s x : List ℕ) → takes c (length d) (length s) ≡ true → x ≡ pasted d c.at s
     → AddPromise d c s (record { at = c.at + length s; full = false }) x
-add-yes d c s x e f = record { cursor = rw e; buffer = rw e f }
+add_yes d c s x e f = record { cursor = rw e; buffer = rw e f }
 
 -- a piece that did not
-pub add-no : (d : List ℕ) (c : Cursor) (s : List ℕ) → takes c (length d) (length s) ≡ false
+pub add_no : (d : List ℕ) (c : Cursor) (s : List ℕ) → takes c (length d) (length s) ≡ false
     → AddPromise d c s (record { at = c.at; full = true }) d
-add-no d c s e = record { cursor = rw e; buffer = rw e }
+add_no d c s e = record { cursor = rw e; buffer = rw e }
 
 -- a promise kept for a piece is kept for one that is equal
 pub add_of : (d : List ℕ) (c : Cursor) (s t : List ℕ) (r : Cursor) (x : List ℕ) → s ≡ t → AddPromise d c s r x → AddPromise d c t r x
@@ -70,26 +70,26 @@ abbrev whole : ℕ → Cursor
 whole k = record { at = k; full = false }
 
 -- bytes that went in as hex, counted by two
-pub hex-yes : (d : List ℕ) (c : Cursor) (s x : List ℕ) → takes c (length d) (2 * length s) ≡ true → x ≡ pasted d c.at (hex s)
+pub hex_yes : (d : List ℕ) (c : Cursor) (s x : List ℕ) → takes c (length d) (2 * length s) ≡ true → x ≡ pasted d c.at (hex s)
     → AddPromise d c (hex s) (record { at = c.at + 2 * length s; full = false }) x
-hex-yes d c s x e f =
-    let p = add-yes d c (hex s) x (ap (takes c (length d)) (length-hex s) ∙ e) f in
+hex_yes d c s x e f =
+    let p = add_yes d c (hex s) x (ap (takes c (length d)) (length-hex s) ∙ e) f in
     let g : c.at + length (hex s) ≡ c.at + 2 * length s = omega (arith, length-hex s) in
     record { cursor = ap (λ (k : ℕ). whole k) (sym g) ∙ p.cursor; buffer = p.buffer }
 
-pub hex-no : (d : List ℕ) (c : Cursor) (s : List ℕ) → takes c (length d) (2 * length s) ≡ false
+pub hex_no : (d : List ℕ) (c : Cursor) (s : List ℕ) → takes c (length d) (2 * length s) ≡ false
     → AddPromise d c (hex s) (record { at = c.at; full = true }) d
-hex-no d c s e = add-no d c (hex s) (ap (takes c (length d)) (length-hex s) ∙ e)
+hex_no d c s e = add_no d c (hex s) (ap (takes c (length d)) (length-hex s) ∙ e)
 
 hex-snoc : (l : List ℕ) (b : ℕ) → hex (l ++ (b ∷ [])) ≡ (hex l ++ (digit (b / 16) ∷ [])) ++ (digit (b % 16) ∷ [])
 hex-snoc [] b = refl
 hex-snoc (a ∷ l) b = ap (λ (q : List ℕ). digit (a / 16) ∷ digit (a % 16) ∷ q) (hex-snoc l b)
 
 -- one turn of writing hex
-pub hex-turn : (x d s : List ℕ) (a i p q : ℕ) → x ≡ pasted d a (hex (take i s)) → i < length s → a + 2 * length s ≤ length d
+pub hex_turn : (x d s : List ℕ) (a i p q : ℕ) → x ≡ pasted d a (hex (take i s)) → i < length s → a + 2 * length s ≤ length d
     → p ≡ digit (get_or s i 0 / 16) → q ≡ digit (get_or s i 0 % 16)
     → set (set x (a + 2 * i) p) (a + 2 * i + 1) q ≡ pasted d a (hex (take (i + 1) s))
-hex-turn x d s a i p q e h k f g =
+hex_turn x d s a i p q e h k f g =
     let b : ℕ = get_or s i 0 in
     let y : List ℕ = hex (take i s) in
     let m : length y ≡ 2 * i = omega (arith, length-hex (take i s), length-take-le i s (omega arith)) in
@@ -103,9 +103,9 @@ hex-turn x d s a i p q e h k f g =
     ∙ ap (pasted d a) (sym (hex-snoc (take i s) b) ∙ ap hex (sym (take-suc s i 0 h) ∙ ap (λ (j : ℕ). take j s) (sym (add-one i))))
 
 -- the last digit of what is left, put in front of the digits that are there
-pub digit-turn : (l out : List ℕ) (n at v : ℕ) → 0 < at → at ≤ length out → l ≡ decimal n ++ drop at out → 10 ≤ n → v ≡ digit (n % 10)
+pub digit_turn : (l out : List ℕ) (n at v : ℕ) → 0 < at → at ≤ length out → l ≡ decimal n ++ drop at out → 10 ≤ n → v ≡ digit (n % 10)
     → l ≡ decimal (n / 10) ++ drop (at - 1) (set out (at - 1) v)
-digit-turn l out n at v h k e g f =
+digit_turn l out n at v h k e g f =
     let i : suc (at - 1) ≡ at = omega arith in
     e
     ∙ ap (λ (q : List ℕ). q ++ drop at out) (decimal-more n g)
@@ -114,17 +114,17 @@ digit-turn l out n at v h k e g f =
     ∙ ap (λ (q : List ℕ). decimal (n / 10) ++ q) (sym (drop-set out (at - 1) v (omega arith)))
 
 -- the first digit, put in front of the others
-pub digit-last : (l out : List ℕ) (n at v : ℕ) → 0 < at → at ≤ length out → l ≡ decimal n ++ drop at out → n < 10 → v ≡ digit n
+pub digit_last : (l out : List ℕ) (n at v : ℕ) → 0 < at → at ≤ length out → l ≡ decimal n ++ drop at out → n < 10 → v ≡ digit n
     → drop (at - 1) (set out (at - 1) v) ≡ l
-digit-last l out n at v h k e g f =
+digit_last l out n at v h k e g f =
     let i : suc (at - 1) ≡ at = omega arith in
     drop-set out (at - 1) v (omega arith)
     ∙ ap₂ (λ (u : ℕ) (j : ℕ). u ∷ drop j out) f i
-    ∙ sym (e ∙ ap (λ (q : List ℕ). q ++ drop at out) (decimal-small n g))
+    ∙ sym (e ∙ ap (λ (q : List ℕ). q ++ drop at out) (decimal_small n g))
 
 -- how the room for what is left falls
-pub digits-left : (n at : ℕ) → 10 ≤ n → length (decimal n) ≤ at → (length (decimal (n / 10)) ≤ at - 1) × (1 < at)
-digits-left n at h k =
+pub digits_left : (n at : ℕ) → 10 ≤ n → length (decimal n) ≤ at → (length (decimal (n / 10)) ≤ at - 1) × (1 < at)
+digits_left n at h k =
     let e : length (decimal n) ≡ length (decimal (n / 10)) + 1 =
     ap length (decimal-more n h) ∙ length-append (decimal (n / 10)) (digit (n % 10) ∷ []) in
     (omega (arith, decimal_some (n / 10)), omega (arith, decimal_some (n / 10)))

@@ -2,7 +2,7 @@
 use native.Mathlib.Omega.{arith}
 use mathlib.Core.Path.{sym}
 use Rattle.arrivals.specs.Marks.{mark_of}
-use Rattle.arrivals.proofs.Taking.{above_unmarked, below_unmarked, within-marked}
+use Rattle.arrivals.proofs.Taking.{above_unmarked, below_unmarked, within_marked}
 use Rattle.arrivals.proofs.is_marked.Goals as goal
 
 pub returns-then-a-n : goal.returns-then-a-n
@@ -13,4 +13,4 @@ returns-then-k-gt31 c = sym (below_unmarked _ _ c.if-k-gt31.true)
 
 pub returns : goal.returns
 unfolding mark_of
-returns c = sym (within-marked _ _ (omega arith) (omega arith))
+returns c = sym (within_marked _ _ (omega arith) (omega arith))

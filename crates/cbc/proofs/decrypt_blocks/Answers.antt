@@ -1,4 +1,3 @@
--- `decrypt_blocks` keeps its promise: what is done and the run over the rest are always the whole run.
 use Prim.Native.Nat.{◌*◌, ◌/◌, ℕ}
 use native.Mathlib.Omega.{arith}
 use mathlib.Core.Path.{refl, sym, ◌∙◌, ap}
@@ -7,7 +6,7 @@ use lib.ListN.{length}
 use Rattle.octets.proofs.Filled.{filled-part}
 use Rattle.aes.specs.Schedule.{keys_of}
 use Rattle.cbc.specs.Cbc.{xor_block}
-use Rattle.cbc.proofs.Run.{run-turn, run_end, opened, kept, opened-length, decrypt-run}
+use Rattle.cbc.proofs.Run.{run_turn, run_end, opened, kept, opened-length, decrypt_run}
 use Rattle.cbc.proofs.decrypt_blocks.Goals as goal
 
 pub loop-i-preserved : goal.loop-i-preserved
@@ -20,7 +19,7 @@ loop-i-preserved c =
     let a = c.args in
     let w : List ℕ = keys_of a.a in
     let h = xored.ensures ∙ ap (λ (y : List ℕ). xor_block y l.v) decrypt-block.ensures in
-    let t = run-turn (opened w) kept l.i _ l.v l.s _ _ _ _ _ _ (omega arith) l.invariant.1 (opened-length w)
+    let t = run_turn (opened w) kept l.i _ l.v l.s _ _ _ _ _ _ (omega arith) l.invariant.1 (opened-length w)
     l.invariant.2 (block.ensures ∙ filled-part 16 l.s (16 * l.i) (omega arith)) h refl put.ensures in
     (omega arith, t.0, t.1)
 
@@ -29,4 +28,4 @@ returns c =
     let a = c.args in
     let w : List ℕ = keys_of a.a in
     let l = c.loop-i in
-    run_end (opened w) kept l.i (length a.s.now / 16) _ _ _ (omega arith) l.invariant.1 l.invariant.2 ∙ sym (decrypt-run w _ _ _)
+    run_end (opened w) kept l.i (length a.s.now / 16) _ _ _ (omega arith) l.invariant.1 l.invariant.2 ∙ sym (decrypt_run w _ _ _)

@@ -1,4 +1,3 @@
--- `same` keeps its promise: after i turns the sum of differences is zero exactly where the first i bytes are equal.
 use mathlib.Core.Path.{sym}
 use native.Mathlib.Omega.{arith}
 use Rattle.octets.proofs.Equal.{same_turn, same_lengths}

@@ -3,7 +3,7 @@ use native.Mathlib.Omega.{arith}
 use mathlib.Core.Path.{refl, ap, sym, ◌∙◌}
 use Rattle.refusal.specs.Outcome.{told}
 use Rattle.framing.proofs.Outer.{outer_inv}
-use Rattle.once.proofs.Outer.{outer-refused, outer-passed}
+use Rattle.once.proofs.Outer.{outer_refused, outer_passed}
 use Rattle.once.proofs.read_datagram.Goals as goal
 
 pub slice_bounds-read_payload-count : goal.slice_bounds-read_payload-count
@@ -15,8 +15,8 @@ slice_bounds-read_payload-start c = slice_bounds-read_payload-count c
 
 pub returns-in-Refused-clause-once_promise : goal.returns-in-Refused-clause-once_promise
 returns-in-Refused-clause-once_promise c =
-    outer-refused _ _ _ c.check_outer-o.ensures _ _ (ap told c.in-Refused.is)
+    outer_refused _ _ _ c.check_outer-o.ensures _ _ (ap told c.in-Refused.is)
 
 pub returns-in-Done-clause-once_promise : goal.returns-in-Done-clause-once_promise
 returns-in-Done-clause-once_promise c =
-    outer-passed _ _ _ c.check_outer-o.ensures _ _ (ap told c.in-Done.is) _ refl _ _ c.read_payload.ensures.once_promise
+    outer_passed _ _ _ c.check_outer-o.ensures _ _ (ap told c.in-Done.is) _ refl _ _ c.read_payload.ensures.once_promise

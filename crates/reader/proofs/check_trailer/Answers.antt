@@ -1,7 +1,7 @@
 -- `check_trailer` keeps its promise: a law for each way out.
 use native.Mathlib.Omega.{arith}
 use mathlib.Core.Path.{refl}
-use Rattle.framing.proofs.Trailer.{trailer_6, trailer_7, trailer-short, trailer_8, trailer-done}
+use Rattle.framing.proofs.Trailer.{trailer_6, trailer_7, trailer_short, trailer_8, trailer_done}
 use Rattle.reader.proofs.check_trailer.Goals as goal
 
 pub returns-then-packet-m : goal.returns-then-packet-m
@@ -13,7 +13,7 @@ returns-then-not-same c =
 
 pub returns-then-k-lt2 : goal.returns-then-k-lt2
 returns-then-k-lt2 c =
-    trailer-short _ _ _ _ c.code_len-m.ensures (omega arith) _ c.same.ensures (c.if-not-same.false) (omega arith)
+    trailer_short _ _ _ _ c.code_len-m.ensures (omega arith) _ c.same.ensures (c.if-not-same.false) (omega arith)
 
 pub returns-then-next-ne7 : goal.returns-then-next-ne7
 returns-then-next-ne7 c =
@@ -22,10 +22,10 @@ returns-then-next-ne7 c =
 
 pub returns-then-k-q : goal.returns-then-k-q
 returns-then-k-q c =
-    trailer-done _ _ _ _ c.code_len-m.ensures (omega arith) _ c.same.ensures (c.if-not-same.false) (omega arith)
+    trailer_done _ _ _ _ c.code_len-m.ensures (omega arith) _ c.same.ensures (c.if-not-same.false) (omega arith)
     c.if-next-ne7.false _ _ c.widen-q.ensures.0 (omega arith)
 
 pub returns : goal.returns
 returns c =
-    trailer-done _ _ _ _ c.code_len-m.ensures (omega arith) _ c.same.ensures (c.if-not-same.false) (omega arith)
+    trailer_done _ _ _ _ c.code_len-m.ensures (omega arith) _ c.same.ensures (c.if-not-same.false) (omega arith)
     c.if-next-ne7.false _ _ c.widen-q.ensures.0 refl

@@ -6,17 +6,17 @@ use mathlib.Core.Path.{◌≡◌, ap, sym, subst}
 use lib.ListN.{take}
 use Rattle.framing.specs.Read.{Computed}
 use Rattle.framing.proofs.Sound.{head_inv}
-use Rattle.framing.proofs.Coded.{told-computed}
+use Rattle.framing.proofs.Coded.{told_computed}
 use Rattle.suite.specs.Types.{code_length}
 use Rattle.suite.specs.Session.{suite_of}
-use Rattle.suite.proofs.Suites.{code-short}
+use Rattle.suite.proofs.Suites.{code_short}
 use Rattle.reader.proofs.Promised.{tells}
 use Rattle.reader.proofs.read_behind_head.Goals as goal
 
 pub expect_code-c-requires : goal.expect_code-c-requires
 expect_code-c-requires c =
     let a = c.args in
-    omega (arith, (head_inv (suite_of a.s) a.packet.now _ c.requires).short, code-short a.s.integrity)
+    omega (arith, (head_inv (suite_of a.s) a.packet.now _ c.requires).short, code_short a.s.integrity)
 
 pub returns : goal.returns
 returns c =
@@ -27,6 +27,6 @@ returns c =
     let e : take (code_length c.args.s.integrity) x.code ≡ take m x.code
     = ap (λ (k : ℕ). take k x.code) (sym c.code_len-m.ensures) in
     tells _ _ _
-    (told-computed S l (take m x.code) _ _ _ _ c.requires
+    (told_computed S l (take m x.code) _ _ _ _ c.requires
     (subst (λ (y : List ℕ). Computed S l y x.blocks) e c.expect_code-c.ensures)
     c.read_rest.ensures.answer c.read_rest.ensures.count)

@@ -1,7 +1,7 @@
 -- `read_rest` keeps its promise: the payload's length with the header's numbers.
 use mathlib.Core.Path.{ap, refl}
 use Rattle.suite.specs.Told.{stage_told}
-use Rattle.framing.proofs.Rest.{rest_stop, rest-go}
+use Rattle.framing.proofs.Rest.{rest_stop, rest_go}
 use Rattle.reader.proofs.read_rest.Goals as goal
 
 pub returns-in-Stop : goal.returns-in-Stop
@@ -15,7 +15,7 @@ returns-in-Stop c =
 pub returns-in-Go : goal.returns-in-Go
 returns-in-Go c =
     record {
-      answer = rest-go _ _ _ _ _ c.find_payload-f.ensures _ _ _ (ap stage_told c.in-Go.is)
+      answer = rest_go _ _ _ _ _ c.find_payload-f.ensures _ _ _ (ap stage_told c.in-Go.is)
           c.load_le4-session_id.ensures c.load_le4-session_sequence_number.ensures;
       count = refl;
     }

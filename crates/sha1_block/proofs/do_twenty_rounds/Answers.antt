@@ -1,4 +1,3 @@
--- `do_twenty_rounds` keeps its promise. Invariant: t rounds from s on are done.
 use Rattle.std.proofs.Common.{refl, rules}
 use Rattle.sha1_block.specs.Turns.{turns}
 use Rattle.sha1_block.proofs.Laws.{turns_more}

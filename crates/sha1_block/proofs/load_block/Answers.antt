@@ -1,4 +1,3 @@
--- `load_block` keeps its promise. Invariant: the first t words are the block's first t words.
 use Rattle.std.proofs.Common.{arith, rules}
 use Rattle.sha1_block.specs.Block.{words}
 use Rattle.sha1_block.proofs.Laws.{words_more}

@@ -1,4 +1,3 @@
--- `make_schedule` keeps its promise. Invariant: the first t words are the schedule's first t words.
 use Rattle.std.proofs.Common.{◌≡◌, sym, ◌∙◌, arith, take_all, rules}
 use Rattle.sha1_block.specs.Block.{more, schedule}
 use Rattle.sha1_block.proofs.Laws.{more-more}

@@ -8,7 +8,7 @@ use lib.ListN.{length, replicate}
 use borrow.Author.Tests.{le-leb}
 use Rattle.running.specs.Promise.{limit}
 use Rattle.sha1_hmac.specs.Hash.{hmac_sha1, hmac_blocks}
-use Rattle.sha1_hmac.proofs.Laws.{mac_count-short}
+use Rattle.sha1_hmac.proofs.Laws.{mac_count_short}
 use Rattle.suite.specs.Code.{longest_code}
 use borrow.Author.Rules.{rules}
 use Rattle.suite.proofs.make_code.Goals as goal
@@ -25,5 +25,5 @@ returns c =
       code = p.value ∙ ap (λ (b : Bool). cond b (hmac_sha1 k1 l) (replicate longest_code 0)) ok;
       blocks =
           p.blocks ∙ ap (λ (b : Bool). cond b (hmac_blocks k1 l) 0) ok
-          ∙ ap (λ (m : ℕ). cond (leb (length l) limit) m 0) (mac_count-short k1 l (omega arith));
+          ∙ ap (λ (m : ℕ). cond (leb (length l) limit) m 0) (mac_count_short k1 l (omega arith));
     }

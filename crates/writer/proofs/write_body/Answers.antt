@@ -4,17 +4,17 @@ use mathlib.Core.Bool.{Bool}
 use mathlib.Core.Path.{sym, ◌∙◌, subst}
 use lib.ListN.{length}
 use Rattle.framing.specs.Write.{body_size}
-use Rattle.framing.proofs.Writes.{body-bare, body-aes}
+use Rattle.framing.proofs.Writes.{body_bare, body_aes}
 use Rattle.suite.specs.Session.{suite_of}
 use Rattle.writer.proofs.write_body.Goals as goal
 
 pub returns-then-encrypts : goal.returns-then-encrypts
 returns-then-encrypts c =
-    body-aes (suite_of c.args.s) _ _ _ _ (sym c.encrypts.ensures ∙ c.if-encrypts.true) c.write_encrypted.ensures
+    body_aes (suite_of c.args.s) _ _ _ _ (sym c.encrypts.ensures ∙ c.if-encrypts.true) c.write_encrypted.ensures
 
 pub returns-else-encrypts : goal.returns-else-encrypts
 returns-else-encrypts c =
     let a = c.args in
     let fits : Bool → Type 0 = λ (b : Bool). 12 + body_size b (length a.payload.now) ≤ length a.out.now in
     let bare = sym c.encrypts.ensures ∙ c.if-encrypts.false in
-    body-bare (suite_of a.s) _ _ _ _ _ bare (subst fits bare c.requires.1) c.put.ensures
+    body_bare (suite_of a.s) _ _ _ _ _ bare (subst fits bare c.requires.1) c.put.ensures

@@ -8,7 +8,7 @@ use Rattle.framing.specs.Outer.{outer, write_datagram_of}
 use Rattle.suite.specs.Told.{stage_told}
 use Rattle.suite.specs.Session.{suite_of}
 use Rattle.suite.proofs.Suites.{suite_lengths}
-use Rattle.framing.proofs.Writes.{room_inv, write-no, write-yes, datagram-written}
+use Rattle.framing.proofs.Writes.{room_inv, write_no, write_yes, datagram_written}
 use Rattle.writer.proofs.Promised.{writes}
 use borrow.Author.Rules.{rules}
 use Rattle.writer.proofs.write_datagram.Goals as goal
@@ -34,16 +34,16 @@ write_packet-requires c =
 pub returns-in-Stop-clause-write_promise : goal.returns-in-Stop-clause-write_promise
 unfolding write_datagram_of
 returns-in-Stop-clause-write_promise c =
-    writes _ _ _ _ (write-no _ _ _ outer _ _ c.check_room-t.ensures _ _ (ap stage_told c.in-Stop.is))
+    writes _ _ _ _ (write_no _ _ _ outer _ _ c.check_room-t.ensures _ _ (ap stage_told c.in-Stop.is))
 
 pub returns-in-Go-clause-write_promise : goal.returns-in-Go-clause-write_promise
 unfolding write_datagram_of
 returns-in-Go-clause-write_promise c =
     let a = c.args in
-    let iv-size : length a.iv ≡ 16 = search rules in
+    let iv_size : length a.iv ≡ 16 = search rules in
     let e = room_inv (suite_of a.s) 4 (length a.payload.now) (length a.out.now) _
     (sym c.check_room-t.ensures ∙ ap stage_told c.in-Go.is) in
     writes _ _ _ _
-    (write-yes (suite_of a.s) _ a.iv outer _ _ c.check_room-t.ensures (suite_lengths a.s) iv-size _ _
+    (write_yes (suite_of a.s) _ a.iv outer _ _ c.check_room-t.ensures (suite_lengths a.s) iv_size _ _
     (ap stage_told c.in-Go.is)
-    (datagram-written a.out.now _ _ _ _ (omega (arith, e.1)) c.put.ensures c.write_packet.ensures))
+    (datagram_written a.out.now _ _ _ _ (omega (arith, e.1)) c.put.ensures c.write_packet.ensures))

@@ -4,7 +4,7 @@ use native.Mathlib.Omega.{arith}
 use mathlib.Core.Path.{◌≡◌, sym, ◌∙◌, subst}
 use lib.ListN.{length}
 use Rattle.framing.specs.Write.{least_q, packet_size}
-use Rattle.framing.proofs.Writes.{longest-small, body-fits, packet-body, packet-code, packet-bare, packet-auth, header_same}
+use Rattle.framing.proofs.Writes.{longest_small, body_fits, packet_body, packet_code, packet_bare, packet_auth, header_same}
 use Rattle.suite.specs.Types.{encrypts}
 use Rattle.suite.specs.Session.{suite_of}
 use Rattle.suite.proofs.Suites.{suite_lengths}
@@ -12,19 +12,19 @@ use borrow.Author.Rules.{rules}
 use Rattle.writer.proofs.write_packet.Goals as goal
 
 pub measure_body-n-requires : goal.measure_body-n-requires
-measure_body-n-requires c = omega (arith, c.requires.0, longest-small (encrypts c.args.s.confidentiality))
+measure_body-n-requires c = omega (arith, c.requires.0, longest_small (encrypts c.args.s.confidentiality))
 
 pub make_header-h-requires : goal.make_header-h-requires
 make_header-h-requires c =
     let a = c.args in
-    omega (arith, c.measure_body-n.ensures, body-fits (encrypts a.s.confidentiality) (length a.payload.now) c.requires.0)
+    omega (arith, c.measure_body-n.ensures, body_fits (encrypts a.s.confidentiality) (length a.payload.now) c.requires.0)
 
 pub write_body-requires : goal.write_body-requires
 write_body-requires c =
     let a = c.args in
     let n = length a.payload.now in (
-      omega (arith, c.requires.0, longest-small (encrypts a.s.confidentiality)),
-      omega (arith, c.requires.1, packet-body (suite_of a.s) n, c.put.auto.dst),
+      omega (arith, c.requires.0, longest_small (encrypts a.s.confidentiality)),
+      omega (arith, c.requires.1, packet_body (suite_of a.s) n, c.put.auto.dst),
     )
 
 pub write_code-requires : goal.write_code-requires
@@ -36,27 +36,27 @@ write_code-requires c =
     let out = c.write_body.new.out in
     let kept : length out ≡ length a.out.now = c.write_body.auto.out ∙ c.put.auto.dst in
     let fits : packet_size S n ≤ length out = subst (λ (k : ℕ). packet_size S n ≤ k) (sym kept) c.requires.1 in
-    let whole = packet-code S n (sym c.carries_code.ensures ∙ c.if-carries_code.true) in (
-      omega (arith, b, body-fits (encrypts a.s.confidentiality) n c.requires.0),
+    let whole = packet_code S n (sym c.carries_code.ensures ∙ c.if-carries_code.true) in (
+      omega (arith, b, body_fits (encrypts a.s.confidentiality) n c.requires.0),
       subst (λ (k : ℕ). 12 + k + least_q (12 + k) + 2 + S.m ≤ length out) (sym b) (subst (λ (k : ℕ). k ≤ length out) (sym whole) fits),
     )
 
 pub returns-then-carries_code : goal.returns-then-carries_code
 returns-then-carries_code c =
     let a = c.args in
-    let iv-size : length a.iv ≡ 16 = search rules in
+    let iv_size : length a.iv ≡ 16 = search rules in
     let S = suite_of a.s in
-    packet-auth S (suite_lengths a.s) _ a.iv iv-size a.out.now _ _ _ _ _ c.measure_body-n.ensures
+    packet_auth S (suite_lengths a.s) _ a.iv iv_size a.out.now _ _ _ _ _ c.measure_body-n.ensures
     (c.make_header-h.ensures ∙ header_same _ _ _ _ _ _) c.put.ensures
-    (omega (arith, c.requires.1, packet-body S (length a.payload.now))) c.write_body.ensures _
+    (omega (arith, c.requires.1, packet_body S (length a.payload.now))) c.write_body.ensures _
     (sym c.carries_code.ensures ∙ c.if-carries_code.true) c.write_code.ensures
 
 pub returns-else-carries_code : goal.returns-else-carries_code
 returns-else-carries_code c =
     let a = c.args in
-    let iv-size : length a.iv ≡ 16 = search rules in
+    let iv_size : length a.iv ≡ 16 = search rules in
     let S = suite_of a.s in
-    packet-bare S (suite_lengths a.s) _ a.iv iv-size a.out.now _ _ _ _ _ c.measure_body-n.ensures
+    packet_bare S (suite_lengths a.s) _ a.iv iv_size a.out.now _ _ _ _ _ c.measure_body-n.ensures
     (c.make_header-h.ensures ∙ header_same _ _ _ _ _ _) c.put.ensures
-    (omega (arith, c.requires.1, packet-body S (length a.payload.now))) c.write_body.ensures
+    (omega (arith, c.requires.1, packet_body S (length a.payload.now))) c.write_body.ensures
     (sym c.carries_code.ensures ∙ c.if-carries_code.false)

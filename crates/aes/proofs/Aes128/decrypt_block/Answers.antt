@@ -1,4 +1,3 @@
--- `decrypt_block` keeps its promise: the rounds that are left make of the state what all of them make of the first.
 use native.Mathlib.Omega.{arith}
 use borrow.Author.Rules.{rules}
 use Rattle.aes.specs.Schedule.{keys_of}

@@ -1,10 +1,9 @@
--- `encrypt_block` keeps its promise: after n turns the state has been through n rounds.
 use native.Mathlib.Omega.{arith}
 use mathlib.Core.Path.{refl}
 use borrow.Author.Rules.{rules}
 use Rattle.aes.specs.Cipher.{rounds}
 use Rattle.aes.specs.Schedule.{keys_of}
-use Rattle.aes.proofs.Rounds.{round-turn, cipher_end}
+use Rattle.aes.proofs.Rounds.{round_turn, cipher_end}
 use Rattle.aes.proofs.Aes128.encrypt_block.Goals as goal
 
 pub loop-n-init : goal.loop-n-init
@@ -18,7 +17,7 @@ loop-n-preserved c =
     let sub-bytes = c.sub_bytes in
     let l = c.loop-n in (
       search rules,
-      round-turn _ _ _ _ _ _ _ _ l.invariant.1 sub-bytes.ensures shift-rows.ensures mix-columns.ensures
+      round_turn _ _ _ _ _ _ _ _ l.invariant.1 sub-bytes.ensures shift-rows.ensures mix-columns.ensures
           c.add_round_key-t-in-loop-n.ensures,
     )
 

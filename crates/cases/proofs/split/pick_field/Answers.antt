@@ -1,17 +1,16 @@
--- `pick_field` keeps its promise: the place goes on behind one separator with each turn.
 use Prim.Native.Nat.{ℕ, ◌+◌, ◌≤◌}
 use mathlib.Core.Path.{◌≡◌, ◌∙◌, ap}
 use native.Mathlib.Omega.{arith}
 use lib.ListN.{length, drop}
 use Rattle.cases.specs.Fields.{behind}
-use Rattle.cases.proofs.Walk.{behind-next, field_part, field_at}
+use Rattle.cases.proofs.Walk.{behind_next, field_part, field_at}
 use Rattle.cases.proofs.split.pick_field.Goals as goal
 
 pub loop-i-preserved : goal.loop-i-preserved
 loop-i-preserved c =
     let l = c.loop-i in
     let p = c.pass_field-at in
-    let e = behind-next 0x20 l.i l.at p.result c.args.line.now l.invariant.1 p.ensures in
+    let e = behind_next 0x20 l.i l.at p.result c.args.line.now l.invariant.1 p.ensures in
     (e.0, e.1, omega arith)
 
 pub returns : goal.returns

@@ -1,10 +1,10 @@
 -- `read_decimal` keeps its promise: a number that is at most `most` fits.
 use mathlib.Core.Path.{sym, ◌∙◌}
 use native.Mathlib.Omega.{arith}
-use Rattle.text.proofs.Reading.{number-most}
+use Rattle.text.proofs.Reading.{number_most}
 use Rattle.cases.proofs.values.read_decimal.Goals as goal
 
 pub overflow_cast-result : goal.overflow_cast-result
 overflow_cast-result c =
     let e = sym c.in-Value.is ∙ c.undecimal.ensures in
-    omega (arith, number-most 10 c.args.most _ _ e)
+    omega (arith, number_most 10 c.args.most _ _ e)

@@ -3,7 +3,7 @@ use native.Mathlib.Omega.{arith}
 use mathlib.Core.Path.{refl, ap, sym, ◌∙◌}
 use Rattle.refusal.specs.Outcome.{told}
 use Rattle.framing.proofs.Outer.{outer_inv}
-use Rattle.framing.proofs.InPlace.{outer-no, outer-on}
+use Rattle.framing.proofs.InPlace.{outer_no, outer_on}
 use Rattle.frame.proofs.Promised.{reads}
 use Rattle.frame.proofs.opening.read_datagram.Goals as goal
 
@@ -16,11 +16,11 @@ slice_bounds-read_payload-start c = slice_bounds-read_payload-count c
 
 pub returns-in-Refused-clause-read_promise : goal.returns-in-Refused-clause-read_promise
 returns-in-Refused-clause-read_promise c =
-    reads _ _ _ _ _ (outer-no _ _ _ c.check_outer-o.ensures _ _ (ap told c.in-Refused.is))
+    reads _ _ _ _ _ (outer_no _ _ _ c.check_outer-o.ensures _ _ (ap told c.in-Refused.is))
 
 pub returns-in-Done-clause-read_promise : goal.returns-in-Done-clause-read_promise
 returns-in-Done-clause-read_promise c =
     let r = c.read_payload.ensures.read_promise in
     reads _ _ _ _ _
-    (outer-on _ _ _ c.check_outer-o.ensures _ _ _ _ _ (ap told c.in-Done.is) refl
+    (outer_on _ _ _ c.check_outer-o.ensures _ _ _ _ _ (ap told c.in-Done.is) refl
     r.tells.answer r.tells.count r.buffer)

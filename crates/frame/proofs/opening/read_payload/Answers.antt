@@ -1,6 +1,6 @@
 -- `read_payload` keeps its promise: only what was accepted is opened.
 use mathlib.Core.Path.{sym, ◌∙◌}
-use Rattle.frame.proofs.Parts.{read_opened, read-refused}
+use Rattle.frame.proofs.Parts.{read_opened, read_refused}
 use Rattle.frame.proofs.opening.read_payload.Goals as goal
 
 pub returns-then-is_accepted-clause-read_promise : goal.returns-then-is_accepted-clause-read_promise
@@ -9,4 +9,4 @@ returns-then-is_accepted-clause-read_promise c =
 
 pub returns-else-is_accepted-clause-read_promise : goal.returns-else-is_accepted-clause-read_promise
 returns-else-is_accepted-clause-read_promise c =
-    read-refused _ _ _ c.read_checked-r.ensures (sym c.is_accepted.ensures ∙ c.if-is_accepted.false)
+    read_refused _ _ _ c.read_checked-r.ensures (sym c.is_accepted.ensures ∙ c.if-is_accepted.false)

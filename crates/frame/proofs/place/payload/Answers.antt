@@ -1,6 +1,6 @@
 -- `payload` keeps its promise: the part lies at its place, or is empty at the packet's start.
 use native.Mathlib.Omega.{arith}
-use Rattle.framing.proofs.Places.{part-given, payload_at-fits, part_empty, part_none}
+use Rattle.framing.proofs.Places.{part_given, payload_at-fits, part_empty, part_none}
 use borrow.Author.Rules.{rules}
 use Rattle.frame.proofs.place.payload.Goals as goal
 
@@ -8,7 +8,7 @@ pub returns-then-len-packet : goal.returns-then-len-packet
 returns-then-len-packet c =
     let a = c.args in
     let e = c.find_start-start.ensures in
-    (part-given _ _ _ _ e (omega arith), search rules, omega (arith, payload_at-fits a.packet.now a.encrypted a.len _ e (omega arith)))
+    (part_given _ _ _ _ e (omega arith), search rules, omega (arith, payload_at-fits a.packet.now a.encrypted a.len _ e (omega arith)))
 
 pub returns-else-len-packet : goal.returns-else-len-packet
 returns-else-len-packet c =

@@ -3,7 +3,7 @@ use Rattle.keys.specs.Codes.{text2}
 use native.Mathlib.Omega.{arith}
 use Rattle.sha1_block.specs.Block.{sha1_hash}
 use Rattle.sha1_block.proofs.Laws.{sha1_sized}
-use Rattle.running.proofs.Givens.{given-code}
+use Rattle.running.proofs.Givens.{given_code}
 use Rattle.keys.proofs.state.message_2_code.Goals as goal
 
 pub returns : goal.returns
@@ -16,4 +16,4 @@ returns c =
     let g₄ = c.feed16-d.ensures k _ _ g₃ (omega arith) in
     let g₅ = c.feed16-e.ensures k _ _ g₄ (omega arith) in
     let g₆ = c.feed_role.ensures k _ _ g₅ (omega arith) in
-    given-code sha1_hash sha1_sized (λ d. d) k _ _ g₆ c.finalize.ensures (omega arith)
+    given_code sha1_hash sha1_sized (λ d. d) k _ _ g₆ c.finalize.ensures (omega arith)

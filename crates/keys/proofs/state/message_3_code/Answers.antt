@@ -3,7 +3,7 @@ use Rattle.keys.specs.Codes.{text3}
 use native.Mathlib.Omega.{arith}
 use Rattle.sha1_block.specs.Block.{sha1_hash}
 use Rattle.sha1_block.proofs.Laws.{sha1_sized}
-use Rattle.running.proofs.Givens.{given-code}
+use Rattle.running.proofs.Givens.{given_code}
 use Rattle.keys.proofs.state.message_3_code.Goals as goal
 
 pub returns : goal.returns
@@ -13,4 +13,4 @@ returns c =
     let g₁ = c.feed16-a.ensures k _ _ c.begin.ensures (omega arith) in
     let g₂ = c.feed_id-b.ensures k _ _ g₁ (omega arith) in
     let g₃ = c.feed_role.ensures k _ _ g₂ (omega arith) in
-    given-code sha1_hash sha1_sized (λ d. d) k _ _ g₃ c.finalize.ensures (omega arith)
+    given_code sha1_hash sha1_sized (λ d. d) k _ _ g₃ c.finalize.ensures (omega arith)

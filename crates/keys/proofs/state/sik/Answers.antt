@@ -5,7 +5,7 @@ use Rattle.keys.specs.Codes.{text_sik}
 use native.Mathlib.Omega.{arith}
 use Rattle.sha1_block.specs.Block.{sha1_hash}
 use Rattle.sha1_block.proofs.Laws.{sha1_sized}
-use Rattle.running.proofs.Givens.{given-code}
+use Rattle.running.proofs.Givens.{given_code}
 use Rattle.keys.proofs.state.sik.Goals as goal
 
 pub returns : goal.returns
@@ -17,4 +17,4 @@ returns c =
     let g₁ = c.feed16-a.ensures k _ _ c.begin.ensures (omega arith) in
     let g₂ = c.feed16-b.ensures k _ _ g₁ (omega arith) in
     let g₃ = c.feed_role.ensures k _ _ g₂ (omega arith) in
-    rw e at (given-code sha1_hash sha1_sized (λ d. d) k _ _ g₃ c.finalize.ensures (omega arith))
+    rw e at (given_code sha1_hash sha1_sized (λ d. d) k _ _ g₃ c.finalize.ensures (omega arith))

@@ -1,14 +1,14 @@
 -- `read_authentication` keeps its promise: a block of another type is refused.
 use mathlib.Core.Path.{refl}
-use Rattle.messages.proofs.Opening.{type-refused, type-right, type_wrong}
+use Rattle.messages.proofs.Opening.{type_refused, type_right, type_wrong}
 use Rattle.messages.proofs.open_session.read_authentication.Goals as goal
 
 pub returns-in-Refused : goal.returns-in-Refused
-returns-in-Refused c = type-refused 0 _ _ c.from_data.ensures _ c.in-Refused.is
+returns-in-Refused c = type_refused 0 _ _ c.from_data.ensures _ c.in-Refused.is
 
 pub returns-in-Authentication : goal.returns-in-Authentication
 returns-in-Authentication c =
-    type-right 0 _ _ c.from_data.ensures _ _
+    type_right 0 _ _ c.from_data.ensures _ _
     c.in-Block.is c.in-Authentication.is refl
 
 pub returns-in-Integrity : goal.returns-in-Integrity

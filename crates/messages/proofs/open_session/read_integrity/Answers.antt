@@ -1,10 +1,10 @@
 -- `read_integrity` keeps its promise: a block of another type is refused.
 use mathlib.Core.Path.{refl}
-use Rattle.messages.proofs.Opening.{type-refused, type-right, type_wrong}
+use Rattle.messages.proofs.Opening.{type_refused, type_right, type_wrong}
 use Rattle.messages.proofs.open_session.read_integrity.Goals as goal
 
 pub returns-in-Refused : goal.returns-in-Refused
-returns-in-Refused c = type-refused 1 _ _ c.from_data.ensures _ c.in-Refused.is
+returns-in-Refused c = type_refused 1 _ _ c.from_data.ensures _ c.in-Refused.is
 
 pub returns-in-Authentication : goal.returns-in-Authentication
 returns-in-Authentication c =
@@ -13,7 +13,7 @@ returns-in-Authentication c =
 
 pub returns-in-Integrity : goal.returns-in-Integrity
 returns-in-Integrity c =
-    type-right 1 _ _ c.from_data.ensures _ _
+    type_right 1 _ _ c.from_data.ensures _ _
     c.in-Block.is c.in-Integrity.is refl
 
 pub returns-in-Confidentiality : goal.returns-in-Confidentiality

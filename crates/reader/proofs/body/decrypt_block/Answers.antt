@@ -6,7 +6,7 @@ use Rattle.octets.proofs.Filled.{filled-part}
 use Rattle.aes.specs.Schedule.{keys_of}
 use Rattle.aes.specs.Cipher.{inv_cipher}
 use Rattle.cbc.specs.Cbc.{xor_block}
-use Rattle.reader.proofs.Chained.{body-block}
+use Rattle.reader.proofs.Chained.{body_block}
 use Rattle.reader.proofs.body.decrypt_block.Goals as goal
 
 pub returns : goal.returns
@@ -16,5 +16,5 @@ returns c =
     c.xor_block.ensures ∙ ap₂ xor_block
     (c.decrypt_block-plain.ensures ∙ ap (inv_cipher (keys_of a.w))
     (c.block-cipher.ensures ∙ filled-part 16 a.body.now a.at p.2))
-    (c.block-before.ensures ∙ filled-part 16 a.body.now (a.at - 16) (omega arith)) ∙ body-block (keys_of a.w) a.body.now a.at
+    (c.block-before.ensures ∙ filled-part 16 a.body.now (a.at - 16) (omega arith)) ∙ body_block (keys_of a.w) a.body.now a.at
     p.0 p.1 p.2

@@ -1,4 +1,3 @@
--- `decrypt_tail` keeps its promise: the first i bytes are those of the plain text. The measure is what is left of t.
 use borrow.Author.Rules.{rules}
 use Prim.Native.Nat.{ℕ, ◌+◌, ◌-◌}
 use native.Mathlib.Omega.{arith}
@@ -7,7 +6,7 @@ use lib.ListN.{length, take, drop}
 use Rattle.octets.specs.Place.{part}
 use Rattle.reader.specs.Uncbc.{uncbc}
 use Rattle.aes.specs.Schedule.{keys_of}
-use Rattle.framing.proofs.Blocks.{tail-turn}
+use Rattle.framing.proofs.Blocks.{tail_turn}
 use Rattle.reader.proofs.body.decrypt_tail.Goals as goal
 
 pub loop-i-preserved : goal.loop-i-preserved
@@ -21,6 +20,6 @@ loop-i-preserved c =
       omega arith,
       omega arith,
       c.put.auto.dst ∙ c.loop-i.invariant.2,
-      tail-turn c.loop-i.tail x c.decrypt_block-b.result c.put.new.dst (length l - 16 - a.t) i _ c.loop-i.invariant.3
+      tail_turn c.loop-i.tail x c.decrypt_block-b.result c.put.new.dst (length l - 16 - a.t) i _ c.loop-i.invariant.3
           (c.decrypt_block-b.ensures ∙ ap (λ (k : ℕ). part x k 16) from) n (omega arith) c.put.ensures,
     )

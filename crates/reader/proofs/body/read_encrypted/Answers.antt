@@ -1,6 +1,6 @@
 -- `read_encrypted` keeps its promise: a law for each way out.
 use native.Mathlib.Omega.{arith}
-use Rattle.framing.proofs.Body.{decrypted_1, decrypted_12, decrypted_10, decrypted-on}
+use Rattle.framing.proofs.Body.{decrypted_1, decrypted_12, decrypted_10, decrypted_on}
 use Rattle.reader.proofs.body.read_encrypted.Goals as goal
 
 pub returns-then-body-lt16 : goal.returns-then-body-lt16
@@ -13,4 +13,4 @@ pub returns-then-n-eq0 : goal.returns-then-n-eq0
 returns-then-n-eq0 c = decrypted_10 _ _ (omega arith) c.if-n-ne0.false c.if-n-eq0.true
 
 pub returns : goal.returns
-returns c = decrypted-on _ _ (omega arith) c.if-n-ne0.false c.if-n-eq0.false _ c.strip_pad.ensures
+returns c = decrypted_on _ _ (omega arith) c.if-n-ne0.false c.if-n-eq0.false _ c.strip_pad.ensures

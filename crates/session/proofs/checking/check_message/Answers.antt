@@ -2,8 +2,8 @@
 use Rattle.refusal.specs.Order.{done}
 use Rattle.messages.specs.Answers.{told4}
 use mathlib.Core.Path.{sym, ◌∙◌, ap}
-use Rattle.session.proofs.Makes.{value_inside, same-four}
-use Rattle.session.proofs.Chains.{four27, four28, four32, four_heard, heard_four-refused}
+use Rattle.session.proofs.Makes.{value_inside, same_four}
+use Rattle.session.proofs.Chains.{four27, four28, four32, four_heard, heard_four_refused}
 use Rattle.session.proofs.checking.check_message.Goals as goal
 
 pub returns-then-f-ne-TAG_3 : goal.returns-then-f-ne-TAG_3
@@ -37,7 +37,7 @@ returns-then-not-same c =
     let s = c.same in
     let got = c.from_data.ensures in
     let e = sym got ∙ ap told4 c.in-Message.is in
-    let n = sym (same-four a.state a.message.now c.in-Message.f.value.at v.result s.result v.ensures s.ensures) ∙ c.if-not-same.true in
+    let n = sym (same_four a.state a.message.now c.in-Message.f.value.at v.result s.result v.ensures s.ensures) ∙ c.if-not-same.true in
     let i1 = c.if-f-ne-TAG_3.false in
     sym (ap done (four32 a.state a.message.now c.in-Message.f e i1 c.if-f-begun.false n))
 
@@ -45,7 +45,7 @@ pub returns-in-Refused : goal.returns-in-Refused
 returns-in-Refused c =
     let a = c.args in
     let e = sym c.from_data.ensures ∙ ap told4 c.in-Refused.is in
-    sym (ap done (heard_four-refused a.state a.message.now _ _ e))
+    sym (ap done (heard_four_refused a.state a.message.now _ _ e))
 
 pub returns-else-not-same : goal.returns-else-not-same
 returns-else-not-same c =
@@ -54,6 +54,6 @@ returns-else-not-same c =
     let s = c.same in
     let got = c.from_data.ensures in
     let e = sym got ∙ ap told4 c.in-Message.is in
-    let y = sym (same-four a.state a.message.now c.in-Message.f.value.at v.result s.result v.ensures s.ensures) ∙ c.if-not-same.false in
+    let y = sym (same_four a.state a.message.now c.in-Message.f.value.at v.result s.result v.ensures s.ensures) ∙ c.if-not-same.false in
     let i1 = c.if-f-ne-TAG_3.false in
     sym (ap done (four_heard a.state a.message.now c.in-Message.f e i1 c.if-f-begun.false y))

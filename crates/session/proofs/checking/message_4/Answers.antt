@@ -1,14 +1,14 @@
 -- `message_4` keeps its promise: the first stage keeps the record, the second closes it.
 use mathlib.Core.List.{[]}
 use Rattle.refusal.specs.declared.Refusal.TheVariants.{WrongStep}
-use Rattle.octets.proofs.Place.{begun-none}
+use Rattle.octets.proofs.Place.{begun_none}
 use Rattle.session.specs.Steps.{four_of}
 use Rattle.refusal.specs.Outcome.{told}
 use mathlib.Core.Path.{refl, sym, ◌∙◌, ap}
-use Rattle.refusal.proofs.Order.{then_refuse, done-no, done-yes}
+use Rattle.refusal.proofs.Order.{then_refuse, done_no, done_yes}
 use Rattle.session.proofs.Chains.{four33, four_ready}
 use Rattle.session.proofs.Refusals.{ready_four_keeps, heard_four_shuts}
-use Rattle.session.proofs.Stages.{kept, shut, second_stop, second-go, promise_as, step-made}
+use Rattle.session.proofs.Stages.{kept, shut, second_stop, second_go, promise_as, step_made}
 use Rattle.session.proofs.checking.message_4.Goals as goal
 
 pub returns-then-not-is_in_step : goal.returns-then-not-is_in_step
@@ -24,7 +24,7 @@ returns-in-Refused c =
     let a = c.args in
     let step = c.is_in_step.ensures in
     let t = four_ready a.state (sym step ∙ c.if-not-is_in_step.false) in
-    let u = done-no _ _ _ (sym c.check_message.ensures ∙ ap told c.in-Refused.is) in
+    let u = done_no _ _ _ (sym c.check_message.ensures ∙ ap told c.in-Refused.is) in
     let k = heard_four_shuts a.state a.message.now _ _ u in
     shut _ a.state [] c.in-Refused.r _ _ (second_stop _ _ _ tt _ _ t u) k c.make_closed.ensures c.refuse-in-Refused.ensures
 
@@ -34,6 +34,6 @@ returns-in-Done c =
     let a = c.args in
     let step = c.is_in_step.ensures in
     let t = four_ready a.state (sym step ∙ c.if-not-is_in_step.false) in
-    let u = done-yes _ (sym c.check_message.ensures ∙ ap told c.in-Done.is) in
-    let m = step-made _ a.state [] _ 0 [] c.mark_open.ensures refl (sym (begun-none [])) in
-    promise_as _ _ a.state [] _ _ (second-go _ _ _ tt _ t u.1) m
+    let u = done_yes _ (sym c.check_message.ensures ∙ ap told c.in-Done.is) in
+    let m = step_made _ a.state [] _ 0 [] c.mark_open.ensures refl (sym (begun_none [])) in
+    promise_as _ _ a.state [] _ _ (second_go _ _ _ tt _ t u.1) m

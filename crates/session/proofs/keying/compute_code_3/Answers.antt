@@ -2,7 +2,7 @@
 use Rattle.messages.specs.Name.{name_of}
 use Rattle.session.specs.Steps.{code_three, who}
 use native.Mathlib.Omega.{arith}
-use Rattle.session.proofs.Makes.{hashed-digest}
+use Rattle.session.proofs.Makes.{hashed_digest}
 use Rattle.session.proofs.keying.compute_code_3.Goals as goal
 
 pub returns : goal.returns
@@ -10,4 +10,4 @@ unfolding code_three who name_of
 returns c =
     let a = c.args in
     let h = c.message_3_code-h in
-    hashed-digest a.password.now _ h.result (omega arith) h.ensures
+    hashed_digest a.password.now _ h.result (omega arith) h.ensures

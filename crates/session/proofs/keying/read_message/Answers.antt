@@ -1,7 +1,7 @@
 -- `read_message` keeps its promise: one law for each answer.
 use mathlib.Core.Path.{refl}
 use Rattle.messages.proofs.Answered.{passed_2, refused_2}
-use Rattle.session.proofs.Chains.{two27, two28, two30, two_heard, heard_two-refused}
+use Rattle.session.proofs.Chains.{two27, two28, two30, two_heard, heard_two_refused}
 use Rattle.session.proofs.Makes.{heard_stop, heard_pass}
 use Rattle.session.proofs.keying.read_message.Goals as goal
 
@@ -35,7 +35,7 @@ returns-in-Refused c =
     let a = c.args in
     let d = c.from_data-got in
     let e = refused_2 _ d.result c.in-Refused.r d.ensures c.in-Refused.is in
-    heard_stop _ _ _ _ d.result.message (heard_two-refused a.state a.message.now _ _ e) refl
+    heard_stop _ _ _ _ d.result.message (heard_two_refused a.state a.message.now _ _ e) refl
 
 pub returns-else-code-ne-CODE_LEN : goal.returns-else-code-ne-CODE_LEN
 returns-else-code-ne-CODE_LEN c =

@@ -2,13 +2,13 @@
 use Rattle.session.specs.Role.{lookup_bit, role_of}
 use native.Mathlib.Omega.{arith}
 use mathlib.Core.Path.{ap}
-use Rattle.session.proofs.Role.{level-small}
+use Rattle.session.proofs.Role.{level_small}
 use Rattle.session.proofs.request.make_role.Goals as goal
 
 pub overflow_add-result : goal.overflow_add-result
 overflow_add-result c =
     let l = c.choose_level-b.ensures in
-    let h = level-small c.args.level c.requires in
+    let h = level_small c.args.level c.requires in
     omega arith
 
 pub returns-in-NameAndLevel : goal.returns-in-NameAndLevel

@@ -3,11 +3,11 @@ use native.Mathlib.Omega.{arith}
 use lib.Dec.{leb}
 use Prim.Native.Nat.{ℕ}
 use mathlib.Core.Path.{sym, ◌∙◌, ap}
-use Rattle.session.proofs.Chains.{carried-auth, carried_integ, carried_conf}
+use Rattle.session.proofs.Chains.{carried_auth, carried_integ, carried_conf}
 use Rattle.session.proofs.response.is_carried.Goals as goal
 
 pub returns-then-code-ne1 : goal.returns-then-code-ne1
-returns-then-code-ne1 c = carried-auth c.args.r (λ h. c.if-code-ne1.true (c.code.ensures ∙ h))
+returns-then-code-ne1 c = carried_auth c.args.r (λ h. c.if-code-ne1.true (c.code.ensures ∙ h))
 
 pub returns-then-code-gt1 : goal.returns-then-code-gt1
 returns-then-code-gt1 c =

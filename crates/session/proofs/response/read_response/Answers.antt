@@ -1,7 +1,7 @@
 -- `read_response` keeps its promise: one law for each answer.
 use Rattle.messages.specs.Answers.{told_open}
 use mathlib.Core.Path.{sym, ◌∙◌, ap}
-use Rattle.session.proofs.Chains.{open27, open28, open29, open_heard, heard_open-refused}
+use Rattle.session.proofs.Chains.{open27, open28, open29, open_heard, heard_open_refused}
 use Rattle.session.proofs.response.read_response.Goals as goal
 
 pub returns-then-r-ne-OPEN_TAG : goal.returns-then-r-ne-OPEN_TAG
@@ -27,7 +27,7 @@ returns-then-not-is_carried c =
 pub returns-in-Refused : goal.returns-in-Refused
 returns-in-Refused c =
     let a = c.args in
-    heard_open-refused a.state a.message.now _ _ (sym c.from_data.ensures ∙ ap told_open c.in-Refused.is)
+    heard_open_refused a.state a.message.now _ _ (sym c.from_data.ensures ∙ ap told_open c.in-Refused.is)
 
 pub returns-else-not-is_carried : goal.returns-else-not-is_carried
 returns-else-not-is_carried c =

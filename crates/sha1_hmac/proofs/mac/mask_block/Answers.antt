@@ -1,4 +1,3 @@
--- `mask_block` keeps its promise. Invariant: the first i bytes are xored.
 use Rattle.std.proofs.Common.{arith, rules}
 use Rattle.hmac.specs.Hmac.{xored}
 use Rattle.hmac.proofs.Masked.{mask_turn}

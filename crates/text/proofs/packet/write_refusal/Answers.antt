@@ -6,7 +6,7 @@ use lib.ListN.{length}
 use Rattle.text.specs.Digits.{decimal}
 use Rattle.text.specs.Line.{refused_word, newline}
 use Rattle.text.proofs.Tens.{decimal-length}
-use Rattle.text.proofs.Lines.{wrote_none, wrote-more, wrote-all}
+use Rattle.text.proofs.Lines.{wrote_none, wrote_more, wrote_all}
 use Rattle.text.proofs.packet.write_refusal.Goals as goal
 
 pub returns : goal.returns
@@ -20,7 +20,7 @@ returns c =
     let h : 64 ≤ length d = c.requires in
     let n = number.result in
     let s : length (decimal n) ≤ 3 = decimal-length 2 n (omega arith) in
-    let w₁ = wrote-more 0 8 [] d refused_word _ _ _ _ (wrote_none d) add.ensures (omega arith) (omega arith) in
-    let w₂ = wrote-more 8 3 _ d (decimal n) _ _ _ _ w₁ decimal-fact.ensures s (omega arith) in
-    let w₃ = wrote-more 11 1 _ d newline _ _ _ _ w₂ add2.ensures (omega arith) (omega arith) in
-    rw number.ensures at (wrote-all 12 _ d _ _ w₃ (omega arith))
+    let w₁ = wrote_more 0 8 [] d refused_word _ _ _ _ (wrote_none d) add.ensures (omega arith) (omega arith) in
+    let w₂ = wrote_more 8 3 _ d (decimal n) _ _ _ _ w₁ decimal-fact.ensures s (omega arith) in
+    let w₃ = wrote_more 11 1 _ d newline _ _ _ _ w₂ add2.ensures (omega arith) (omega arith) in
+    rw number.ensures at (wrote_all 12 _ d _ _ w₃ (omega arith))

@@ -1,14 +1,13 @@
--- `put_bytes` keeps its promise: after i turns the first i pairs stand as bytes.
 use Prim.Native.Nat.{◌+◌, ◌*◌}
 use mathlib.Core.Path.{refl, sym, ◌∙◌}
 use native.Mathlib.Omega.{arith}
 use lib.ListN.{length-set}
-use Rattle.octets.proofs.Place.{pasted-none}
+use Rattle.octets.proofs.Place.{pasted_none}
 use Rattle.text.proofs.Reading.{digits-at, length_pairs, pair_turn}
 use Rattle.text.proofs.read.put_bytes.Goals as goal
 
 pub loop-i-init : goal.loop-i-init
-loop-i-init c = let a = c.args in (omega arith, sym (pasted-none a.out.now a.at), refl)
+loop-i-init c = let a = c.args in (omega arith, sym (pasted_none a.out.now a.at), refl)
 
 pub join_digits-requires : goal.join_digits-requires
 join_digits-requires c =

@@ -1,13 +1,12 @@
--- `read_number` keeps its promise: the number so far and what is left to read are the number of the whole.
 use Prim.Native.Nat.{ℕ, ◌+◌, ◌*◌}
 use mathlib.Core.Path.{sym, ◌∙◌, ap}
 use native.Mathlib.Omega.{arith}
 use lib.ListN.{drop}
-use Rattle.text.proofs.Reading.{left, number-none, number_some, stop_none, stop_over, go_on, at_end, over, within}
+use Rattle.text.proofs.Reading.{left, number_none, number_some, stop_none, stop_over, go_on, at_end, over, within}
 use Rattle.text.proofs.read.read_number.Goals as goal
 
 pub returns-then-s-eq0 : goal.returns-then-s-eq0
-returns-then-s-eq0 c = let a = c.args in sym (number-none a.base a.most a.s.now c.if-s-eq0.true)
+returns-then-s-eq0 c = let a = c.args in sym (number_none a.base a.most a.s.now c.if-s-eq0.true)
 
 pub loop-i-init : goal.loop-i-init
 loop-i-init c =

@@ -1,7 +1,7 @@
 -- `unhex` keeps its promise: each way out is a law of it.
 use mathlib.Core.Path.{sym, ◌∙◌}
 use native.Mathlib.Omega.{arith}
-use Rattle.text.proofs.Reading.{hexed_odd, hexed-not, hexed-yes, unhex_bad, unhex_full, unhex-done, length_pairs}
+use Rattle.text.proofs.Reading.{hexed_odd, hexed-not, hexed_yes, unhex_bad, unhex_full, unhex_done, length_pairs}
 use Rattle.text.proofs.read.unhex.Goals as goal
 
 pub returns-then-s-ne0 : goal.returns-then-s-ne0
@@ -21,7 +21,7 @@ returns-then-out-n c =
     let is-hex = c.is_hex in
     let if1 = c.if-s-ne0 in
     unhex_full a.out.now a.at a.s.now
-    (hexed-yes a.s.now if1.false (sym is-hex.ensures ∙ if2.false)) (omega arith)
+    (hexed_yes a.s.now if1.false (sym is-hex.ensures ∙ if2.false)) (omega arith)
 
 pub returns-then-out-n-2 : goal.returns-then-out-n-2
 returns-then-out-n-2 c =
@@ -30,7 +30,7 @@ returns-then-out-n-2 c =
     let is-hex = c.is_hex in
     let if1 = c.if-s-ne0 in
     unhex_full a.out.now a.at a.s.now
-    (hexed-yes a.s.now if1.false (sym is-hex.ensures ∙ if2.false)) (omega arith)
+    (hexed_yes a.s.now if1.false (sym is-hex.ensures ∙ if2.false)) (omega arith)
 
 pub returns : goal.returns
 returns c =
@@ -39,8 +39,8 @@ returns c =
     let if2 = c.if-not-is_hex in
     let is-hex = c.is_hex in
     let if1 = c.if-s-ne0 in
-    unhex-done a.out.now a.at a.s.now _
-    (hexed-yes a.s.now if1.false (sym is-hex.ensures ∙ if2.false)) (omega arith)
+    unhex_done a.out.now a.at a.s.now _
+    (hexed_yes a.s.now if1.false (sym is-hex.ensures ∙ if2.false)) (omega arith)
     put-bytes.ensures
 
 pub put_bytes-requires-clause-room : goal.put_bytes-requires-clause-room

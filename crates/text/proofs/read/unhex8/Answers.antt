@@ -1,7 +1,7 @@
 -- `unhex8` keeps its promise: eight hex digits are a number that fits.
 use mathlib.Core.Path.{sym, ◌∙◌}
 use native.Mathlib.Omega.{arith}
-use Rattle.text.proofs.Reading.{number-most, word-not, word_value, word_bad}
+use Rattle.text.proofs.Reading.{number_most, word-not, word_value, word_bad}
 use Rattle.text.proofs.read.unhex8.Goals as goal
 
 pub returns-then-s-ne8 : goal.returns-then-s-ne8
@@ -11,7 +11,7 @@ pub overflow_cast-result : goal.overflow_cast-result
 overflow_cast-result c =
     let read_number = c.read_number in
     let a = c.args in
-    omega (arith, number-most 16 0xffff_ffff _ a.s.now (sym c.in-Value.is ∙ read_number.ensures))
+    omega (arith, number_most 16 0xffff_ffff _ a.s.now (sym c.in-Value.is ∙ read_number.ensures))
 
 pub returns-in-Value : goal.returns-in-Value
 returns-in-Value c =

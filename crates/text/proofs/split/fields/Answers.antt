@@ -1,6 +1,5 @@
--- `fields` keeps its promise: the separators that were passed and the fields of the rest are all the fields.
 use native.Mathlib.Omega.{arith}
-use Rattle.text.proofs.Cuts.{cut-here, cut-more}
+use Rattle.text.proofs.Cuts.{cut_here, cut-more}
 use Rattle.text.proofs.split.fields.Goals as goal
 use Rattle.text.proofs.split.fields.Goals.{then-line-at, else-line-at}
 
@@ -12,7 +11,7 @@ loop-at-preserved c =
       | then-line-at w ↦ (
         omega arith,
         omega arith,
-        omega (arith, cut-here a.separator a.line.now l.at (omega arith) w.if-line-at.true, l.invariant.2),
+        omega (arith, cut_here a.separator a.line.now l.at (omega arith) w.if-line-at.true, l.invariant.2),
       )
       | else-line-at w ↦ (
         omega arith,

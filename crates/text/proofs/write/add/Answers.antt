@@ -2,8 +2,8 @@
 use mathlib.Core.Path.{sym, ◌∙◌}
 use native.Mathlib.Omega.{arith}
 use lib.ListN.{length}
-use Rattle.octets.proofs.Place.{put-done}
-use Rattle.text.proofs.Writing.{takes-fits, add-yes}
+use Rattle.octets.proofs.Place.{put_done}
+use Rattle.text.proofs.Writing.{takes-fits, add_yes}
 use Rattle.text.proofs.write.add.Goals as goal
 
 pub overflow_add-result : goal.overflow_add-result
@@ -20,5 +20,5 @@ returns-then-has_room c =
     let if1 = c.if-has_room in
     let has_room = c.has_room in
     let e = sym has_room.ensures ∙ if1.true in
-    add-yes a.out.now a.c a.s.now _ e
-    (put-done a.out.now a.c.at a.s.now _ _ put.ensures (takes-fits a.c _ _ e))
+    add_yes a.out.now a.c a.s.now _ e
+    (put_done a.out.now a.c.at a.s.now _ _ put.ensures (takes-fits a.c _ _ e))

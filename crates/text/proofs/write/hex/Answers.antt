@@ -3,7 +3,7 @@ use Prim.Native.Nat.{◌*◌}
 use mathlib.Core.Path.{sym, ◌∙◌}
 use native.Mathlib.Omega.{arith}
 use lib.ListN.{length}
-use Rattle.text.proofs.Writing.{takes-fits, hex-yes, hex-no}
+use Rattle.text.proofs.Writing.{takes-fits, hex_yes, hex_no}
 use Rattle.text.proofs.write.hex.Goals as goal
 
 pub put_hex-requires : goal.put_hex-requires
@@ -26,10 +26,10 @@ returns-then-has_room c =
     let put-hex = c.put_hex in
     let if1 = c.if-has_room in
     let has_room = c.has_room in
-    hex-yes a.out.now a.c a.s.now _ (sym has_room.ensures ∙ if1.true) put-hex.ensures
+    hex_yes a.out.now a.c a.s.now _ (sym has_room.ensures ∙ if1.true) put-hex.ensures
 
 pub returns : goal.returns
 returns c =
     let a = c.args in
     let has_room = c.has_room in
-    hex-no a.out.now a.c a.s.now (sym has_room.ensures ∙ c.if-has_room.false)
+    hex_no a.out.now a.c a.s.now (sym has_room.ensures ∙ c.if-has_room.false)

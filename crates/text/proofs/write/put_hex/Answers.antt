@@ -1,13 +1,12 @@
--- `put_hex` keeps its promise: after i turns the first i bytes stand in hex.
 use mathlib.Core.Path.{refl, sym}
 use native.Mathlib.Omega.{arith}
 use lib.ListN.{length-set}
-use Rattle.text.proofs.Writing.{hex-turn}
-use Rattle.octets.proofs.Place.{pasted-none}
+use Rattle.text.proofs.Writing.{hex_turn}
+use Rattle.octets.proofs.Place.{pasted_none}
 use Rattle.text.proofs.write.put_hex.Goals as goal
 
 pub loop-i-init : goal.loop-i-init
-loop-i-init c = let a = c.args in (omega arith, sym (pasted-none a.out.now a.at), refl)
+loop-i-init c = let a = c.args in (omega arith, sym (pasted_none a.out.now a.at), refl)
 
 pub loop-i-preserved : goal.loop-i-preserved
 loop-i-preserved c =
@@ -15,7 +14,7 @@ loop-i-preserved c =
     let a = c.args in
     let spell-digit = c.spell_digit in (
       omega arith,
-      hex-turn l.out a.out.now a.s.now a.at l.i _ _ l.invariant.1 (omega arith) (omega arith)
+      hex_turn l.out a.out.now a.s.now a.at l.i _ _ l.invariant.1 (omega arith) (omega arith)
           spell-digit.ensures c.spell_digit-in-loop-i.ensures,
       simp length-set l.invariant.2,
     )

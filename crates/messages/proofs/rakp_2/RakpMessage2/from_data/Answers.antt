@@ -1,10 +1,10 @@
 -- `RakpMessage2::from_data` keeps its promise: the tests, then the fields.
-use Rattle.messages.proofs.Reading.{test-passed, checked-size, read2_no, read2_yes}
+use Rattle.messages.proofs.Reading.{test_passed, checked_size, read2_no, read2_yes}
 use Rattle.messages.proofs.rakp_2.RakpMessage2.from_data.Goals as goal
 
 pub read_fields-requires : goal.read_fields-requires
 read_fields-requires c =
-    checked-size _ 40 _ _ _ (test-passed _ _ c.check_head.ensures c.in-Done.is)
+    checked_size _ 40 _ _ _ (test_passed _ _ c.check_head.ensures c.in-Done.is)
 
 pub returns-in-Refused : goal.returns-in-Refused
 returns-in-Refused c =

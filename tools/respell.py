@@ -7,6 +7,7 @@ usage: tools/respell.py --links     before port.py: a link below crates/ becomes
 - The crate `sha1` is `sha1_hmac`: the kit has a library of the old name.
 - A definition, a field or a lemma is spelled in snake case: `nameOf` is `name_of`. A dash stays where it joins two names, as in
   `length-pasted`; before a plain word it is `_`.
+- tools/names.tsv then says of the names that this leaves what they are today: a file or folder (`*`: every one), the name, today's.
 - Each root file asks for the check's tactics, and each crate is laid out.
 
 Names are those that a file of specs/ or proofs/ declares. Functions of src/, strings, inputs and outputs keep theirs.
@@ -20,6 +21,7 @@ import subprocess
 import sys
 
 OLD, NEW = "sha1", "sha1_hmac"
+NAMES = [line.split("\t") for line in open(os.path.join(os.path.dirname(os.path.abspath(__file__)), "names.tsv"), encoding="utf-8").read().split("\n") if line]
 END = r"\s(){}\[\],;.⌜⌝"
 DECLARED = re.compile(r"^\s*(?:(?:abbrev|unfoldable|pub|data|record)\s+)*([^\s:(){}\[\],;.\"]+(?:\s*,\s*[^\s:(){}]+)*)\s*:\s")
 # A field beside a function of its name.
@@ -126,6 +128,12 @@ def _check(names, to):
     assert not together, together
 
 
+def today(path, text):
+    """What tools/names.tsv makes of the text of a file."""
+    here = {old: new for where, old, new in NAMES if where == "*" or path.startswith(where)}
+    return turner(here)(text)
+
+
 def turner(to):
     words = sorted(to, key=len, reverse=True)
     pattern = re.compile(f"(?<![^{END}←])(?:" + "|".join(map(re.escape, words)) + f")(?![^{END}])")
@@ -176,13 +184,13 @@ def main(argv):
     if os.path.isdir(f"crates/{OLD}"):
         rename_crate()
     for path in glob.glob("crates/**/*.antt", recursive=True):
-        write(path, crate_paths(turn(read(path))))
+        write(path, today(path, crate_paths(turn(read(path)))))
     for path in glob.glob("crates/**/*.rt", recursive=True):
         write(path, outside_strings(crate_paths(read(path)), turn))
     for path in glob.glob("crates/*/must-fail/*.edit") + glob.glob("tests/wrong/*/*.edit"):
-        write(path, crate_paths(turn(read(path))))
+        write(path, today(path, crate_paths(turn(read(path)))))
     for path in ["README.md"] + glob.glob("docs/*.md") + glob.glob("docs/landings/*.md"):
-        write(path, in_ticks(read(path), turn))
+        write(path, in_ticks(read(path), lambda text: today(path, turn(text))))
     ask_for_tactics()
     for crate in sorted(glob.glob("crates/*/src")):
         subprocess.run(["rt", "fmt"], cwd=os.path.dirname(crate), stdout=subprocess.DEVNULL)

@@ -34,9 +34,9 @@ module _ (f after : List ℕ → List ℕ → List ℕ → List ℕ) (law : (key
   abbrev Keeps : CbcSeen → Type 0
   Keeps s = CbcPromise s.lent (f s.key s.iv s.lent) s.answer s.left
 
-  as_one : (cipherText : CbcSeen → List ℕ) (first second whole : CbcSeen) → Keeps first → Keeps second → Keeps whole → TwoGoes cipherText first second whole
-      → handed_on first.iv (cipherText first) ≡ after first.key first.iv first.lent → AsOne first second whole
-  as_one cipherText first second whole p q r t e =
+  as_one : (cipher_text : CbcSeen → List ℕ) (first second whole : CbcSeen) → Keeps first → Keeps second → Keeps whole → TwoGoes cipher_text first second whole
+      → handed_on first.iv (cipher_text first) ≡ after first.key first.iv first.lent → AsOne first second whole
+  as_one cipher_text first second whole p q r t e =
       let h : length first.lent % 16 ≡ 0 = done_whole _ _ _ _ t.first_done p in
       let l : length whole.lent % 16 ≡ length second.lent % 16 = omega (arith, ap length t.parts, length-append first.lent second.lent) in
       record {

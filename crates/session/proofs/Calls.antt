@@ -193,9 +193,9 @@ module _ (y : System) (c : Calls y) where
     two_made =
         two_same (length three.lent)
         (c.two_record ∙ made_next _ steps.answered c.opening.args.0 one c.opening.kept open_made)
-        c.two-kg
-        c.two-password
-        (c.two-message ∙ ap₂ (second y) sent₀ sent₁)
+        c.two_kg
+        c.two_password
+        (c.two_message ∙ ap₂ (second y) sent₀ sent₁)
         ∙ steps.accepts_two
 
     sent₃ : sent three ≡ steps.keyed.bytes

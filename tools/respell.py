@@ -22,7 +22,7 @@ import sys
 
 OLD, NEW = "sha1", "sha1_hmac"
 NAMES = [line.split("\t") for line in open(os.path.join(os.path.dirname(os.path.abspath(__file__)), "names.tsv"), encoding="utf-8").read().split("\n") if line]
-END = r"\s(){}\[\],;.⌜⌝"
+END = r"\s(){}\[\],;.⌜⌝`"
 DECLARED = re.compile(r"^\s*(?:(?:abbrev|unfoldable|pub|data|record)\s+)*([^\s:(){}\[\],;.\"]+(?:\s*,\s*[^\s:(){}]+)*)\s*:\s")
 # A field beside a function of its name.
 FIELDS = {"record-after": "record_left"}

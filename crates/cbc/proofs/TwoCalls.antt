@@ -5,7 +5,7 @@ use mathlib.Core.Path.{◌≡◌, refl, sym, ◌∙◌, ap, ap₂}
 use mathlib.Core.List.{List, ◌++◌}
 use lib.ListN.{length, length-append}
 use Rattle.refusal.specs.Call.{Call}
-use Rattle.refusal.proofs.Told.{outcome_one}
+use Rattle.refusal.proofs.Answer.{outcome_one}
 use Rattle.cbc.specs.Cbc.{cbc_encrypt, cbc_decrypt}
 use Rattle.cbc.specs.Promise.{CbcPromise}
 use Rattle.cbc.specs.Halves.{handed_on, after_encrypt, after_decrypt, ByHalves, CbcSeen, TwoGoes, EncryptGoes, DecryptGoes, AsOne}

@@ -1,8 +1,7 @@
 -- CBC over joined runs of whole blocks, in two goes (docs/RULES.md, 4.3.3; SP 800-38A, 6.2): which block the first go hands on, what the law
 -- says, and what two calls are to one.
-use Rattle.std.specs.Prelude.{ℕ, ◌-◌, ◌%◌, List, [], ◌∷◌, ◌++◌, ◌≡◌, length, drop}
-use Rattle.refusal.specs.declared.Outcome.{Outcome}
-use Rattle.refusal.specs.declared.Outcome.TheVariants.{Done}
+use Rattle.std.specs.Prelude.{Result, Ok, ℕ, ◌-◌, ◌%◌, List, [], ◌∷◌, ◌++◌, ◌≡◌, length, drop}
+use Rattle.refusal.specs.declared.Refusal.{Refusal}
 use Rattle.cbc.specs.Cbc.{cbc_encrypt}
 
 -- the block that is handed on behind the cipher text c: its last sixteen bytes, or the IV if c is empty
@@ -27,7 +26,7 @@ pub record CbcSeen : Type 0 where
   pub key : List ℕ
   pub iv : List ℕ
   pub lent : List ℕ
-  pub answer : Outcome
+  pub answer : Result Unit Refusal
   pub left : List ℕ
 
 -- two calls on the two parts of the buffer that a third is lent whole, under its key. The first has the third's IV and is not refused; the second's IV
@@ -38,7 +37,7 @@ pub record TwoGoes (cipher_text : CbcSeen → List ℕ) (first second whole : Cb
   pub second_key : second.key ≡ whole.key
   pub first_iv : first.iv ≡ whole.iv
   pub second_iv : second.iv ≡ handed_on first.iv (cipher_text first)
-  pub first_done : first.answer ≡ Done
+  pub first_done : first.answer ≡ Ok tt
 
 -- encryption leaves the cipher text, decryption is lent it
 abbrev pub EncryptGoes : (first second whole : CbcSeen) → Type 0
@@ -50,4 +49,4 @@ DecryptGoes = TwoGoes (λ s. s.lent)
 -- together they are the third: it answers what the second answers, and unless that is a refusal it leaves what the two leave
 pub record AsOne (first second whole : CbcSeen) : Type 0 where
   pub answer : whole.answer ≡ second.answer
-  pub left : second.answer ≡ Done → whole.left ≡ first.left ++ second.left
+  pub left : second.answer ≡ Ok tt → whole.left ≡ first.left ++ second.left

@@ -7,7 +7,7 @@ ghost use Rattle.cbc.specs.Cbc.{xor_block, encrypt_blocks, decrypt_blocks, cbc_e
 ghost use Rattle.cbc.specs.Promise.{CbcPromise};
 
 use aes::Aes128;
-use refusal::{Outcome, Refusal};
+use refusal::Refusal;
 
 // The sum of two blocks, bit by bit.
 pub fn xor_block(a: [u8; 16], b: [u8; 16]) -> [u8; 16]
@@ -67,23 +67,23 @@ fn decrypt_blocks(a: Aes128, iv: [u8; 16], s: &mut [u8])
 }
 
 // Encrypts the lent bytes in their place.
-pub fn cbc_encrypt(key: [u8; 16], iv: [u8; 16], s: &mut [u8]) -> Outcome
+pub fn cbc_encrypt(key: [u8; 16], iv: [u8; 16], s: &mut [u8]) -> Result<(), Refusal>
     ensures { CbcPromise s.old (cbc_encrypt key iv s.old) result s.new }
 {
     if s.len() % 16 != 0 {
-        return Outcome::Refused(Refusal::NotWholeBlocks);
+        return Err(Refusal::NotWholeBlocks);
     }
     encrypt_blocks(Aes128::new(key), iv, s);
-    Outcome::Done
+    Ok(())
 }
 
 // Decrypts the lent bytes in their place.
-pub fn cbc_decrypt(key: [u8; 16], iv: [u8; 16], s: &mut [u8]) -> Outcome
+pub fn cbc_decrypt(key: [u8; 16], iv: [u8; 16], s: &mut [u8]) -> Result<(), Refusal>
     ensures { CbcPromise s.old (cbc_decrypt key iv s.old) result s.new }
 {
     if s.len() % 16 != 0 {
-        return Outcome::Refused(Refusal::NotWholeBlocks);
+        return Err(Refusal::NotWholeBlocks);
     }
     decrypt_blocks(Aes128::new(key), iv, s);
-    Outcome::Done
+    Ok(())
 }

@@ -1,4 +1,5 @@
 pub mod Table
 pub mod Order
 pub mod Outcome
+pub mod Answer
 pub mod Call

@@ -3,15 +3,16 @@ use Prim.Native.Nat.{ℕ}
 use mathlib.Core.Bool.{cond}
 use mathlib.Core.Path.{◌≡◌, refl, sym, ◌∙◌, ap}
 use lib.Dec.{eqb}
+use Rattle.refusal.proofs.Answer.{answer_one}
 use Rattle.suite.specs.Types.{type_number}
 use Rattle.suite.specs.declared.PayloadType.{PayloadType}
 use Rattle.suite.specs.declared.PayloadType.TheVariants.{IpmiMessage, Sol, RmcpPlusOpenSessionRequest, RmcpPlusOpenSessionResponse}
 use Rattle.suite.specs.declared.PayloadType.TheVariants.{RakpMessage1, RakpMessage2, RakpMessage3, RakpMessage4}
 use Rattle.suite.proofs.PayloadType.number.Reads as number-reads
+use Rattle.suite.proofs.PayloadTypeTryFromU8.try_from.Reads as try-from-reads
 use Rattle.suite.proofs.code_len.Reads as code-len-reads
 use Rattle.suite.proofs.carries_code.Reads as carries-code-reads
 use Rattle.suite.proofs.encrypts.Reads as encrypts-reads
-use Rattle.suite.proofs.make_bit.Reads as make-bit-reads
 use Rattle.suite.proofs.find_longest_packet.Reads as find-longest-packet-reads
 use Rattle.suite.proofs.make_code.Reads as make-code-reads
 
@@ -41,6 +42,9 @@ type_one t u e = sym (typed t) ∙ ap type_of e ∙ typed u
 pub number_only : (κs : _) (args : _) (a b : _) (s t : _) → number-reads.Post κs args a s → number-reads.Post κs args b t → a ≡ b
 number_only κs args a b s t p q = p.0 ∙ sym q.0
 
+pub try_from_only : (κs : _) (args : _) (a b : _) (s t : _) → try-from-reads.Post κs args a s → try-from-reads.Post κs args b t → a ≡ b
+try_from_only κs args a b s t p q = answer_one type_number type_one a b (p ∙ sym q)
+
 pub code_len_only : (κs : _) (args : _) (a b : _) (s t : _) → code-len-reads.Post κs args a s → code-len-reads.Post κs args b t → a ≡ b
 code_len_only κs args a b s t p q = p ∙ sym q
 
@@ -49,9 +53,6 @@ carries_code_only κs args a b s t p q = p ∙ sym q
 
 pub encrypts_only : (κs : _) (args : _) (a b : _) (s t : _) → encrypts-reads.Post κs args a s → encrypts-reads.Post κs args b t → a ≡ b
 encrypts_only κs args a b s t p q = p ∙ sym q
-
-pub make_bit_only : (κs : _) (args : _) (a b : _) (s t : _) → make-bit-reads.Post κs args a s → make-bit-reads.Post κs args b t → a ≡ b
-make_bit_only κs args a b s t p q = p ∙ sym q
 
 pub find_longest_packet_only : (κs : _) (args : _) (a b : _) (s t : _)
     → find-longest-packet-reads.Post κs args a s → find-longest-packet-reads.Post κs args b t → a ≡ b

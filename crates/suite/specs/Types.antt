@@ -1,5 +1,9 @@
 -- The payload types and the session's algorithms (docs/RULES.md, 6.1 to 6.4).
-use Rattle.std.specs.Prelude.{ℕ, Bool, true, false}
+use Rattle.std.specs.Prelude.{Result, ℕ, Bool, true, false, ◌≡◌}
+use Rattle.refusal.specs.Order.{need, accept}
+use Rattle.refusal.specs.Answer.{told_as}
+use Rattle.refusal.specs.declared.Refusal.{Refusal}
+use Rattle.framing.specs.Known.{known}
 use Rattle.suite.specs.declared.PayloadType.{PayloadType}
 use Rattle.suite.specs.declared.PayloadType.TheVariants.{IpmiMessage, Sol, RmcpPlusOpenSessionRequest, RmcpPlusOpenSessionResponse}
 use Rattle.suite.specs.declared.PayloadType.TheVariants.{RakpMessage1, RakpMessage2, RakpMessage3, RakpMessage4}
@@ -16,6 +20,10 @@ type_number RakpMessage1 = 0x12
 type_number RakpMessage2 = 0x13
 type_number RakpMessage3 = 0x14
 type_number RakpMessage4 = 0x15
+
+-- what is answered for a number: the type that it stands for, or refusal 3 with the number where it stands for none
+abbrev pub TypeOf : ℕ → Result PayloadType Refusal → Type 0
+TypeOf n r = told_as type_number r ≡ need (known n) 3 n (accept n)
 
 -- whether a session encrypts
 abbrev pub encrypts : C.Confidentiality → Bool

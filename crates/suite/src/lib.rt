@@ -3,26 +3,25 @@
 #![tactic(auto)]
 
 ghost use Rattle.std.specs.Prelude.{◌≡◌, ◌<◌};
-ghost use Rattle.framing.specs.Packet.{bit};
 ghost use Rattle.framing.specs.Read.{longest_packet};
-ghost use Rattle.suite.specs.Types.{type_number, code_length, encrypts, carries_code};
+ghost use Rattle.suite.specs.Types.{type_number, TypeOf, code_length, encrypts, carries_code};
 ghost use Rattle.suite.specs.Session.{suite_of};
 ghost use Rattle.suite.specs.Code.{CodePromise};
 
 use keys::Keys;
 use refusal::Refusal;
 
-// The eight payload types; `type_number` gives the number of each.
+// The eight payload types, each with the number that stands for it in a packet.
 #[derive(Clone, Copy)]
 pub enum PayloadType {
-    IpmiMessage,
-    Sol,
-    RmcpPlusOpenSessionRequest,
-    RmcpPlusOpenSessionResponse,
-    RakpMessage1,
-    RakpMessage2,
-    RakpMessage3,
-    RakpMessage4,
+    IpmiMessage = 0x00,
+    Sol = 0x01,
+    RmcpPlusOpenSessionRequest = 0x10,
+    RmcpPlusOpenSessionResponse = 0x11,
+    RakpMessage1 = 0x12,
+    RakpMessage2 = 0x13,
+    RakpMessage3 = 0x14,
+    RakpMessage4 = 0x15,
 }
 
 impl PayloadType {
@@ -30,15 +29,28 @@ impl PayloadType {
     pub fn number(self) -> u8
         ensures { (result ≡ type_number self) × (result < 64) }
     {
-        match self {
-            PayloadType::IpmiMessage => 0x00,
-            PayloadType::Sol => 0x01,
-            PayloadType::RmcpPlusOpenSessionRequest => 0x10,
-            PayloadType::RmcpPlusOpenSessionResponse => 0x11,
-            PayloadType::RakpMessage1 => 0x12,
-            PayloadType::RakpMessage2 => 0x13,
-            PayloadType::RakpMessage3 => 0x14,
-            PayloadType::RakpMessage4 => 0x15,
+        self as u8
+    }
+}
+
+// The type that a number stands for; these eight do, and no other.
+impl TryFrom<u8> for PayloadType {
+    type Error = Refusal;
+
+    ghost try_from_gives = { TypeOf };
+
+    #[tactic(auto, unfolding(framing::specs::Known::known, refusal::specs::Order::need))]
+    fn try_from(n: u8) -> Result<Self, Refusal> {
+        match n {
+            0x00 => Ok(PayloadType::IpmiMessage),
+            0x01 => Ok(PayloadType::Sol),
+            0x10 => Ok(PayloadType::RmcpPlusOpenSessionRequest),
+            0x11 => Ok(PayloadType::RmcpPlusOpenSessionResponse),
+            0x12 => Ok(PayloadType::RakpMessage1),
+            0x13 => Ok(PayloadType::RakpMessage2),
+            0x14 => Ok(PayloadType::RakpMessage3),
+            0x15 => Ok(PayloadType::RakpMessage4),
+            _ => Err(Refusal::InvalidPayloadType(n)),
         }
     }
 }
@@ -67,20 +79,12 @@ pub struct SubState {
 // The RMCP header of an IPMI packet.
 pub const OUTER: [u8; 4] = *b"\x06\x00\xff\x07";
 
-// What a stage hands to the next: a number of bytes, or the refusal that ends it.
-#[derive(Clone, Copy)]
-pub enum Stage {
-    Go(usize),
-    Stop(Refusal),
-}
-
 // The code's length, the one place that has it. A session without integrity has no code, and the same ceiling.
 pub fn code_len(i: Integrity) -> usize
     ensures { result ≡ code_length i }
 {
     match i {
-        Integrity::None => 12,
-        Integrity::HmacSha1_96 => 12,
+        Integrity::None | Integrity::HmacSha1_96 => 12,
     }
 }
 
@@ -88,35 +92,21 @@ pub fn code_len(i: Integrity) -> usize
 pub fn carries_code(i: Integrity) -> bool
     ensures { result ≡ carries_code i }
 {
-    match i {
-        Integrity::None => false,
-        Integrity::HmacSha1_96 => true,
-    }
+    matches!(i, Integrity::HmacSha1_96)
 }
 
 // Whether bodies are encrypted.
 pub fn encrypts(c: Confidentiality) -> bool
     ensures { result ≡ encrypts c }
 {
-    match c {
-        Confidentiality::None => false,
-        Confidentiality::AesCbc128 => true,
-    }
-}
-
-// The bit for a yes or a no in a packet's second byte.
-pub fn make_bit(b: bool) -> u8
-    ensures { result ≡ bit b }
-{
-    if b { 1 } else { 0 }
+    matches!(c, Confidentiality::AesCbc128)
 }
 
 // The longest packet that is read.
 pub fn find_longest_packet(s: SubState) -> usize
     ensures { result ≡ longest_packet (suite_of s) }
 {
-    let i = s.integrity;
-    65804 + code_len(i)
+    65804 + code_len(s.integrity)
 }
 
 // How many bytes the hash computes.
@@ -133,9 +123,7 @@ pub struct Code {
 pub fn make_code(s: SubState, bytes: &[u8]) -> Code
     ensures { CodePromise s bytes.now result }
 {
-    let keys = s.keys;
-    let key = keys.k1;
-    let h = sha1_hmac::hmac(&key, bytes);
+    let h = sha1_hmac::hmac(&s.keys.k1, bytes);
     let code = h.digest;
     Code {
         code,

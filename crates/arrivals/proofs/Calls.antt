@@ -1,12 +1,12 @@
--- Arrivals as the calls take them: calls of `take`, each on the record that the one before it answered. Of a call nothing is used but its
--- contract.
+-- Arrivals as the calls take them: calls of `take`, each on the record that the one before it answered, or on its own again where that one
+-- refused the number. Of a call nothing is used but its contract.
 use Prim.Native.Nat.{ℕ}
 use mathlib.Core.Bool.{true, false}
 use mathlib.Core.List.{List, [], ◌∷◌, map}
 use mathlib.Core.Path.{◌≡◌, refl, ◌∙◌, ap, ap₂}
 use Rattle.refusal.specs.Call.{Call}
-use Rattle.refusal.specs.Order.{Res, refuse, accept, done}
-use Rattle.refusal.specs.Outcome.{told}
+use Rattle.refusal.specs.Answer.{told_as}
+use Rattle.refusal.specs.Order.{Res}
 use Rattle.refusal.specs.Table.{among, unrepeated}
 use Rattle.arrivals.specs.Marks.{count_of}
 use Rattle.arrivals.specs.Take.{take_of, kept_by}
@@ -31,23 +31,26 @@ TakeCall = Call 0 take-kinds.ps take-kinds.r take-reads.Post
 abbrev pub CountCall : Type 0
 CountCall = Call 0 count-kinds.ps count-kinds.r count-reads.Post
 
+-- what a call finds, and the record that its caller holds after it: the one answered, or its own where the number is refused
+abbrev pub found : TakeCall → Res Arrivals
+found c = told_as (λ b. b) c.answer
+
+abbrev pub held : TakeCall → Arrivals
+held c = kept_by (found c) c.args.0
+
 -- calls of `take` from the record a on, one after the other; r is the record in the end
 pub data Taking : Arrivals → List TakeCall → Arrivals → Type 0 where
   none : (a : Arrivals) → Taking a [] a
-  next : (a r : Arrivals) (c : TakeCall) (cs : List TakeCall) → c.args.0 ≡ a → Taking c.answer.arrivals cs r → Taking a (c ∷ cs) r
+  next : (a r : Arrivals) (c : TakeCall) (cs : List TakeCall) → c.args.0 ≡ a → Taking (held c) cs r → Taking a (c ∷ cs) r
 
 -- the numbers of the calls that took theirs
 abbrev pub numbers_taken : List TakeCall → List ℕ
 numbers_taken [] = []
-numbers_taken (c ∷ cs) = with_taken (told c.answer.outcome) c.args.1.0 (numbers_taken cs)
+numbers_taken (c ∷ cs) = with_taken (found c) c.args.1.0 (numbers_taken cs)
 
 -- and of all of them
 abbrev numbers_of : List TakeCall → List ℕ
 numbers_of cs = map (λ c. c.args.1.0) cs
-
-done_taken : {A : Type 0} (R : Res A) (n : ℕ) (ns : List ℕ) → with_taken (done R) n ns ≡ with_taken R n ns
-done_taken (refuse m v) n ns = refl
-done_taken (accept b) n ns = refl
 
 -- they take what the definition takes, and leave the record that it leaves
 calls_take : (a : Arrivals) (cs : List TakeCall) (r : Arrivals) → Taking a cs r
@@ -56,11 +59,10 @@ unfolding taken_of after_all
 calls_take a [] r (none b) = (refl, refl)
 calls_take a (c ∷ cs) r (next b r' d ds e t) =
     let n : ℕ = c.args.1.0 in
-    let rest = calls_take c.answer.arrivals cs r t in
-    let after : c.answer.arrivals ≡ kept_by (take_of a n) a = c.kept.record_left ∙ ap (λ (x : Arrivals). kept_by (take_of x n) x) e in (
-      ap₂ (λ (R : Res Unit) (xs : List ℕ). with_taken R n xs) (c.kept.outcome ∙ ap (λ (x : Arrivals). done (take_of x n)) e)
-          (rest.0 ∙ ap (λ (x : Arrivals). taken_of x (numbers_of cs)) after)
-          ∙ done_taken (take_of a n) n _,
+    let rest = calls_take (held c) cs r t in
+    let finds : found c ≡ take_of a n = c.kept ∙ ap (λ (x : Arrivals). take_of x n) e in
+    let after : held c ≡ kept_by (take_of a n) a = ap₂ kept_by finds e in (
+      ap₂ (λ (R : Res Arrivals) (xs : List ℕ). with_taken R n xs) finds (rest.0 ∙ ap (λ (x : Arrivals). taken_of x (numbers_of cs)) after),
       rest.1 ∙ ap (λ (x : Arrivals). after_all x (numbers_of cs)) after,
     )
 

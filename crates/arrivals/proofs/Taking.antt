@@ -1,8 +1,8 @@
 -- Taking a number, as the code does it: which tests decide, and the record that comes of it.
 use Prim.Native.Nat.{ℕ, ◌+◌, ◌-◌, ◌*◌, ◌%◌, ◌^◌, ◌<◌, ◌≤◌, max}
-use native.Mathlib.Nat.{max-eq_left, max-eq_right, mod-lt, le_of_lt, not-le_of_lt}
+use native.Mathlib.Nat.{max-eq_left, max-eq_right, mod-lt, le_of_lt}
 use native.Mathlib.Omega.{arith}
-use mathlib.Core.Bool.{Bool, true, false, ◌||◌, ◌&&◌, true≢false, or-false, or_comm, and-false}
+use mathlib.Core.Bool.{Bool, false, ◌||◌, ◌&&◌, true≢false, or-false, or_comm, and-false}
 use mathlib.Core.Logic.{⊎_elim}
 use mathlib.Core.Path.{◌≡◌, sym, ◌∙◌, ap, ap₂}
 use lib.Bits.{bit_or, or_lt}
@@ -19,25 +19,10 @@ use Rattle.arrivals.proofs.Bits.{bits_known, bits_agree, mark_or, mark_shifted, 
 pub eqb_same : (a b c d : ℕ) → (a ≡ b → c ≡ d) → (c ≡ d → a ≡ b) → eqb a b ≡ eqb c d
 eqb_same a b c d f g = ⊎_elim (λ e. eq-eqb a b e ∙ sym (eq-eqb c d (f e))) (λ n. ne_eqb a b n ∙ sym (ne_eqb c d (λ e. n (g e)))) (eq_or_not a b)
 
-ltb-same : (a b c d : ℕ) → (a < b → c < d) → (c < d → a < b) → ltb a b ≡ ltb c d
-ltb-same a b c d f g =
-    ⊎_elim (λ l. lt-ltb a b l ∙ sym (lt-ltb c d (f l)))
-    (λ m. le-ltb a b m ∙ sym (⊎_elim (λ l. absurd (not-le_of_lt (g l) m)) (λ k. le-ltb c d k) (lt_or_le c d)))
-    (lt_or_le a b)
-
-pub old_zero : (a : Arrivals) (n : ℕ) → n ≡ 0 → true ≡ too_old a n
-unfolding too_old
-old_zero a n e = sym (ap (λ (b : Bool). b || ltb (n + 31) a.highest) (eq-eqb n 0 e))
-
+-- a number not below the highest is not too old
 pub old_above : (a : Arrivals) (n : ℕ) → (n ≡ 0 → ⊥) → a.highest ≤ n → false ≡ too_old a n
 unfolding too_old
 old_above a n e h = sym (ap (λ (b : Bool). b || ltb (n + 31) a.highest) (ne_eqb n 0 e) ∙ le-ltb (n + 31) a.highest (omega arith))
-
-pub old_below : (a : Arrivals) (n : ℕ) → (n ≡ 0 → ⊥) → n < a.highest → ltb 31 (a.highest - n) ≡ too_old a n
-unfolding too_old
-old_below a n e h =
-    ltb-same 31 (a.highest - n) (n + 31) a.highest (λ l. omega arith) (λ l. omega arith)
-    ∙ sym (ap (λ (b : Bool). b || ltb (n + 31) a.highest) (ne_eqb n 0 e))
 
 -- what a number that is not too old is
 pub young : (a : Arrivals) (n : ℕ) → too_old a n ≡ false → (n ≡ 0 → ⊥) × (a.highest ≤ n + 31)

@@ -6,7 +6,7 @@ ghost use Rattle.arrivals.specs.Marks.{moved_up, bits_of, count_of, marked};
 ghost use Rattle.arrivals.specs.Take.{too_old, taken, fresh};
 ghost use Rattle.arrivals.specs.Promise.{TakePromise};
 
-use refusal::{Outcome, Refusal};
+use refusal::Refusal;
 
 // The highest number taken, and a mark for it and for each of the 31 below it: bit k of `seen` says that `highest - k` was taken.
 #[derive(Clone, Copy)]
@@ -15,40 +15,23 @@ pub struct Arrivals {
     pub seen: u32,
 }
 
-// What became of a number, and the record after it.
-#[derive(Clone, Copy)]
-pub struct Taken {
-    pub outcome: Outcome,
-    pub arrivals: Arrivals,
-}
-
 // Whether a number is too old to be taken, marked or not: zero, or more than 31 below the highest.
+#[tactic(auto, unfolding(crate::specs::Take::too_old))]
 fn is_too_old(a: Arrivals, n: u32) -> bool
     ensures { result ≡ too_old a n }
 {
-    if n == 0 {
-        return true;
-    }
-    if a.highest <= n {
-        return false;
-    }
-    a.highest - n > 31
+    n == 0 || a.highest.saturating_sub(n) > 31
 }
 
+#[tactic(auto, unfolding(crate::specs::Marks::marked, crate::specs::Marks::mark_of))]
 fn is_marked(a: Arrivals, n: u32) -> bool
     ensures { result ≡ marked a n }
 {
-    if a.highest < n {
-        return false;
-    }
-    let k = a.highest - n;
-    if k > 31 {
-        return false;
-    }
-    (a.seen >> k) % 2 == 1
+    n <= a.highest && a.highest - n <= 31 && (a.seen >> (a.highest - n)) & 1 == 1
 }
 
 // The marks of a record whose highest number rises by `d`, which is then marked itself.
+#[tactic(auto, using(crate::proofs::Taking::moved_near))]
 fn move_up(seen: u32, d: u32) -> u32
     ensures { result ≡ bits_of (λ k. eqb k 0 || moved_up seen d k) 32 }
 {
@@ -59,6 +42,7 @@ fn move_up(seen: u32, d: u32) -> u32
 }
 
 // The record with a number that it takes.
+#[tactic(auto, using(crate::proofs::Taking::taken_above, crate::proofs::Taking::taken_below, crate::proofs::Taking::young))]
 fn mark(a: Arrivals, n: u32) -> Arrivals
     requires { too_old a n ≡ false }
     ensures { result ≡ taken a n }
@@ -87,32 +71,25 @@ impl Arrivals {
         }
     }
 
-    // Takes a number, or refuses it and leaves the record as it was.
-    pub fn take(self, n: u32) -> Taken
+    // The record with a number that it takes; where the number is refused the record stays as it was.
+    #[tactic(auto, unfolding(crate::specs::Take::take_of, refusal::specs::Order::need))]
+    pub fn take(self, n: u32) -> Result<Arrivals, Refusal>
         ensures { TakePromise self n result }
     {
         if is_too_old(self, n) {
-            return Taken {
-                outcome: Outcome::Refused(Refusal::TooOld),
-                arrivals: self,
-            };
+            return Err(Refusal::TooOld);
         }
         if is_marked(self, n) {
-            return Taken {
-                outcome: Outcome::Refused(Refusal::AlreadyTaken),
-                arrivals: self,
-            };
+            return Err(Refusal::AlreadyTaken);
         }
-        Taken {
-            outcome: Outcome::Done,
-            arrivals: mark(self, n),
-        }
+        Ok(mark(self, n))
     }
 
     // How many of the 32 marks are set: of a record that began as a new one, how many of the last 32 numbers were taken.
+    #[tactic(auto, using(crate::proofs::Bits::ones_marks))]
     pub fn count(self) -> u32
         ensures { result ≡ count_of self }
     {
-        u32::count_ones(self.seen)
+        self.seen.count_ones()
     }
 }

@@ -1,9 +1,6 @@
--- `move_up` keeps its promise: one mark alone, or the marks shifted.
-use Rattle.arrivals.proofs.Taking.{moved_far, moved_near}
+-- `move_up` keeps its promise where the marks move past the last: one mark alone.
+use Rattle.arrivals.proofs.Taking.{moved_far}
 use Rattle.arrivals.proofs.move_up.Goals as goal
 
 pub returns-then-d-gt31 : goal.returns-then-d-gt31
 returns-then-d-gt31 c = moved_far _ _ c.if-d-gt31.true
-
-pub returns : goal.returns
-returns c = moved_near _ _

@@ -18,8 +18,9 @@ use Rattle.text.specs.Line.{line_of, packet_line}
 use Rattle.text.specs.Promise.{AddPromise}
 use Rattle.text.proofs.Writing.{add_of}
 use Rattle.text.specs.declared.write.Cursor.{Cursor}
-use Rattle.text.specs.declared.packet.Telling.{Telling}
-use Rattle.text.specs.declared.packet.Telling.TheVariants.{Packet, Refused}
+use Rattle.text.specs.declared.line.Packet.{Packet}
+use Rattle.refusal.specs.declared.Refusal.{Refusal}
+use Rattle.std.specs.Prelude.{Result, Ok, Err}
 use Rattle.report.specs.Told.{longest, plain, Bare, found, line_for, told, numbers_told}
 use Rattle.report.proofs.Keyless.{any_keys}
 
@@ -42,18 +43,18 @@ module _ (l : List ℕ) where
   within g h = sym (pass _ _ _ _ (lt-ltb 0 (length l) g) (pass _ _ _ _ (le-leb (length l) longest h) refl))
 
 -- a packet that was read
-pub finds : (l : List ℕ) (s : SubState) (n : ℕ) (r : Read) (t : Telling)
+pub finds : (l : List ℕ) (s : SubState) (n : ℕ) (r : Read) (t : Result Packet Refusal)
     → 0 < length l → length l ≤ longest → Bare s → Tells (read_of (suite_of s) l) n r → numbers_told t ≡ read_told r.answer
     → numbers_told t ≡ found l
 finds l s n r t g h b p e = e ∙ p.answer ∙ ap shown (any_keys s b l) ∙ within l g h
 
 -- a telling's line is the line of its numbers
-line_told : (t : Telling) → line_of t ≡ line_for (numbers_told t)
-line_told (Packet kind id seq len) = refl
-line_told (Refused r) = refl
+line_told : (t : Result Packet Refusal) → line_of t ≡ line_for (numbers_told t)
+line_told (Ok p) = refl
+line_told (Err r) = refl
 
 -- the line of what was found is the line of the packet
-pub tells : (l d : List ℕ) (c r : Cursor) (t : Telling) (exit : List ℕ)
+pub tells : (l d : List ℕ) (c r : Cursor) (t : Result Packet Refusal) (exit : List ℕ)
     → numbers_told t ≡ found l → AddPromise d c (line_of t) r exit → AddPromise d c (told l) r exit
 unfolding told
 tells l d c r t exit e p = add_of d c (line_of t) (told l) r exit (line_told t ∙ ap line_for e) p

@@ -1,7 +1,8 @@
 -- What the small program tells of a packet (docs/RULES.md, 8.1 and 8.2).
-use Rattle.std.specs.Prelude.{ℕ, false, List, [], ◌≡◌, leb, ltb, length}
-use Rattle.refusal.specs.Table.{number_of, value_of}
+use Rattle.std.specs.Prelude.{ℕ, false, List, [], Result, ◌≡◌, leb, ltb, length}
+use Rattle.refusal.specs.Answer.{told_as}
 use Rattle.refusal.specs.Order.{Res, refuse, accept, need}
+use Rattle.refusal.specs.declared.Refusal.{Refusal}
 use Rattle.suite.specs.Types.{code_length}
 use Rattle.framing.specs.Suite.{Suite}
 use Rattle.framing.specs.Read.{read_of}
@@ -10,8 +11,7 @@ use Rattle.suite.specs.declared.Confidentiality as C
 use Rattle.suite.specs.declared.Integrity as I
 use Rattle.suite.specs.declared.SubState.{SubState}
 use Rattle.text.specs.Line.{packet_line, refused_line}
-use Rattle.text.specs.declared.packet.Telling.{Telling}
-use Rattle.text.specs.declared.packet.Telling.TheVariants.{Packet, Refused}
+use Rattle.text.specs.declared.line.Packet.{Packet}
 
 -- the longest packet that is read
 abbrev pub longest : ℕ
@@ -43,7 +43,6 @@ line_for (accept M) = packet_line M.ty M.id M.seq M.len
 unfoldable pub told : List ℕ → List ℕ
 told l = line_for (found l)
 
--- a telling by its numbers
-abbrev pub numbers_told : Telling → Res Shown
-numbers_told (Packet kind id seq len) = accept (record { ty = kind; id = id; seq = seq; len = len })
-numbers_told (Refused r) = refuse (number_of r) (value_of r)
+-- what is told, by its numbers
+abbrev pub numbers_told : Result Packet Refusal → Res Shown
+numbers_told t = told_as (λ p. record { ty = p.kind; id = p.id; seq = p.seq; len = p.len }) t

@@ -10,13 +10,13 @@ use keys::Keys;
 use reader::Reading;
 use refusal::Refusal;
 use suite::{Confidentiality, Integrity, SubState};
-use text::{Cursor, Telling};
+use text::{Cursor, Packet};
 
 // The longest packet that is read.
 pub const LONGEST: usize = 4096;
 
 // A reading as a line has it.
-fn make_telling(a: Reading) -> Telling
+fn make_telling(a: Reading) -> Result<Packet, Refusal>
     ensures { numbers_told result ≡ read_told a }
 {
     match a {
@@ -25,13 +25,13 @@ fn make_telling(a: Reading) -> Telling
             session_id,
             session_sequence_number,
             len,
-        } => Telling::Packet {
+        } => Ok(Packet {
             kind: ty.number(),
             id: session_id,
             seq: session_sequence_number,
             len,
-        },
-        Reading::Refused(r) => Telling::Refused(r),
+        }),
+        Reading::Refused(r) => Err(r),
     }
 }
 
@@ -51,14 +51,14 @@ fn make_session() -> SubState
 }
 
 // What becomes of a packet.
-fn read_packet(packet: &[u8]) -> Telling
+fn read_packet(packet: &[u8]) -> Result<Packet, Refusal>
     ensures { numbers_told result ≡ found packet.now }
 {
-    if packet.len() == 0 {
-        return Telling::Refused(Refusal::NotEnoughData);
+    if packet.is_empty() {
+        return Err(Refusal::NotEnoughData);
     }
     if packet.len() > LONGEST {
-        return Telling::Refused(Refusal::OutputTooShort);
+        return Err(Refusal::OutputTooShort);
     }
     let r = reader::read_checked(make_session(), packet);
     let a = r.answer;

@@ -6,6 +6,7 @@ use mathlib.Core.Bool.{Bool, true, false, ◌&&◌, cond}
 use mathlib.Core.List.{List, [], ◌∷◌, ◌++◌, append-nil}
 use mathlib.Core.Logic.{◌⊎◌, ⊎_elim}
 use mathlib.Core.Path.{◌≡◌, refl, sym, ◌∙◌, ap, ap₂}
+use Rattle.std.specs.Prelude.{Some, None, Ok}
 use lib.Dec.{leb, eqb}
 use lib.ListN.{length, get_or, get_or-append}
 use lib.Seq.{append_snoc}
@@ -17,9 +18,6 @@ use Rattle.octets.proofs.Equal.{and_inv}
 use Rattle.text.specs.Digits.{digit, worth, spelled, decimal, hex, hex8, digits, value, pairs}
 use Rattle.text.specs.Promise.{number_in, word_in, hexed}
 use Rattle.text.specs.Line.{line_of}
-use Rattle.text.specs.declared.read.Number.TheVariants as number
-use Rattle.text.specs.declared.read.Word.TheVariants as word
-use Rattle.text.specs.declared.packet.Telling.TheVariants.{Packet}
 use Rattle.text.proofs.Digits.{worth-digit, digit-worth}
 use Rattle.text.proofs.Tens.{decimal_small, decimal-more, decimal_some}
 use Rattle.text.proofs.Writing.{length-hex}
@@ -63,13 +61,13 @@ pub decimal_value : (n : ℕ) → value 10 0 (decimal n) ≡ n
 decimal_value n = (spells n n (omega arith)).1
 
 -- so it is read back
-pub undecimal_decimal : (n most : ℕ) → n ≤ most → number_in 10 most (decimal n) ≡ number.Value n
+pub undecimal_decimal : (n most : ℕ) → n ≤ most → number_in 10 most (decimal n) ≡ Some n
 unfolding left
 undecimal_decimal n most h =
     let k : (length (decimal n) ≡ 0 → ⊥) = λ e. omega (arith, decimal_some n) in
     number_some 10 most (decimal n) k
-    ∙ ap₂ (λ (t : Bool) (v : ℕ). cond (t && leb v most) (number.Value v) number.Bad) (decimal-digits n) (decimal_value n)
-    ∙ ap (λ (t : Bool). cond t (number.Value n) number.Bad) (le-leb n most h)
+    ∙ ap₂ (λ (t : Bool) (v : ℕ). cond (t && leb v most) (Some v) None) (decimal-digits n) (decimal_value n)
+    ∙ ap (λ (t : Bool). cond t (Some n) None) (le-leb n most h)
 
 -- digits after a number that is not 0 stand after its own
 after : (v : ℕ) (s : List ℕ) → 0 < v → digits 10 s ≡ true → decimal (value 10 v s) ≡ decimal v ++ s
@@ -176,10 +174,10 @@ spelled_value (suc w) n h =
     value_snoc 16 0 (spelled 16 w (n / 16)) (digit (n % 16)) ∙ omega (arith, spelled_value w (n / 16) k, worth-digit (n % 16) (omega arith))
 
 -- eight hex digits are read back
-pub unhex8_hex8 : (n : ℕ) → n < 2 ^ 32 → word_in (hex8 n) ≡ word.Value n
+pub unhex8_hex8 : (n : ℕ) → n < 2 ^ 32 → word_in (hex8 n) ≡ Some n
 unfolding word_in hex8
 unhex8_hex8 n h =
-    ap₂ (λ (t : Bool) (v : ℕ). cond t (word.Value v) word.Bad) (spelled-digits 8 n) (spelled_value 8 n h)
+    ap₂ (λ (t : Bool) (v : ℕ). cond t (Some v) None) (spelled-digits 8 n) (spelled_value 8 n h)
 
 spelled-onto : (w v : ℕ) (s : List ℕ) → digits 16 s ≡ true → spelled 16 (length s + w) (value 16 v s) ≡ spelled 16 w v ++ s
 spelled-onto w v [] e = let g : 0 + w ≡ w = omega arith in ap (λ (k : ℕ). spelled 16 k v) g ∙ sym (append-nil (spelled 16 w v))
@@ -196,11 +194,11 @@ spelled-onto w v (c ∷ s) e =
     ∙ append_snoc (spelled 16 w v) c s
 
 -- and what is read was eight hex digits
-pub hex8_unhex8 : (s : List ℕ) (n : ℕ) → word_in s ≡ word.Value n → hex8 n ≡ s
+pub hex8_unhex8 : (s : List ℕ) (n : ℕ) → word_in s ≡ Some n → hex8 n ≡ s
 unfolding word_in hex8
 hex8_unhex8 s n e = by_test (eqb (length s) 8) (digits 16 s) refl refl e
   where
-    by_test : (t u : Bool) → eqb (length s) 8 ≡ t → digits 16 s ≡ u → cond (t && u) (word.Value (value 16 0 s)) word.Bad ≡ word.Value n
+    by_test : (t u : Bool) → eqb (length s) 8 ≡ t → digits 16 s ≡ u → cond (t && u) (Some (value 16 0 s)) None ≡ Some n
         → spelled 16 8 n ≡ s
     by_test true true f g k =
         let l : length s + 0 ≡ 8 = omega (arith, eqb-true (length s) 8 f) in
@@ -210,7 +208,7 @@ hex8_unhex8 s n e = by_test (eqb (length s) 8) (digits 16 s) refl refl e
     by_test false u f g k = let z : ◌≡◌ {A = ℕ} 0 1 = cc in absurd (omega arith)
 
 -- `type 0 id 0a0b0c0d seq 00000001 payload 2` and the newline: what rule 8.1 shows for the packet of the first marked case
-pub first_line : line_of (Packet 0 0x0a0b0c0d 1 2)
+pub first_line : line_of (Ok (record { kind = 0; id = 0x0a0b0c0d; seq = 1; len = 2 }))
     ≡ 116 ∷ 121 ∷ 112 ∷ 101 ∷ 32 ∷ 48 ∷ 32 ∷ 105 ∷ 100 ∷ 32 ∷ 48 ∷ 97 ∷ 48 ∷ 98 ∷ 48 ∷ 99 ∷ 48 ∷ 100 ∷ 32 ∷ 115 ∷ 101 ∷ 113 ∷ 32
     ∷ 48 ∷ 48 ∷ 48 ∷ 48 ∷ 48 ∷ 48 ∷ 48 ∷ 49 ∷ 32 ∷ 112 ∷ 97 ∷ 121 ∷ 108 ∷ 111 ∷ 97 ∷ 100 ∷ 32 ∷ 50 ∷ 10 ∷ []
 unfolding digit decimal hex8

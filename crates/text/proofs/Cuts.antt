@@ -1,36 +1,22 @@
--- Laws of a line's fields: the turns of the two loops, and that going on from the end of each field gives all of them in order.
+-- Laws of a line's fields: how many there are, and that going on from the end of each field gives all of them in order.
 use Prim.Native.Nat.{ℕ, suc, ◌+◌, ◌-◌, ◌<◌, ◌≤◌}
 use native.Mathlib.Omega.{arith}
-use native.Mathlib.Numerals.{add-one}
 use mathlib.Core.Bool.{Bool, true, false, cond}
 use mathlib.Core.List.{List, [], ◌∷◌}
 use mathlib.Core.Logic.{⊎_elim}
 use mathlib.Core.Path.{◌≡◌, refl, sym, ◌∙◌, ap, ap₂}
 use lib.Dec.{eqb}
-use lib.ListN.{length, get_or, take, drop, length-drop, drop_of_length-le}
-use lib.Seq.{drop-cons, drop-drop}
+use lib.ListN.{length, take, drop, length-drop}
+use lib.Seq.{drop-drop}
 use borrow.Author.Tests.{eq-eqb, ne_eqb}
+use Rattle.std.specs.List.{count_by}
+use Rattle.std.proofs.lemmas.List.Recursion.{is_count_by}
 use Rattle.octets.specs.Place.{part}
 use Rattle.octets.proofs.Order.{eq_or_not}
 use Rattle.text.specs.Fields.{upto, on_first, cut}
 
--- at a separator the field ends
-pub upto_here : (c : ℕ) (l : List ℕ) (i : ℕ) → i < length l → get_or l i 0 ≡ c → length (upto c (drop i l)) ≡ 0
-upto_here c l i h e = ap (λ (q : List ℕ). length (upto c q)) (drop-cons l i 0 h) ∙ rw (eq-eqb (get_or l i 0) c e)
-
--- at another character it goes on
-pub upto-more : (c : ℕ) (l : List ℕ) (i : ℕ) → i < length l → (get_or l i 0 ≡ c → ⊥)
-    → length (upto c (drop i l)) ≡ suc (length (upto c (drop (i + 1) l)))
-upto-more c l i h n =
-    ap (λ (q : List ℕ). length (upto c q)) (drop-cons l i 0 h)
-    ∙ rw (ne_eqb (get_or l i 0) c n, add-one)
-
--- past the end nothing is left
-pub upto_past : (c : ℕ) (l : List ℕ) (i : ℕ) → length l ≤ i → length (upto c (drop i l)) ≡ 0
-upto_past c l i h = ap (λ (q : List ℕ). length (upto c q)) (drop_of_length-le l h)
-
 -- there is at least one field
-pub cut_some : (c : ℕ) (l : List ℕ) → 0 < length (cut c l)
+cut_some : (c : ℕ) (l : List ℕ) → 0 < length (cut c l)
 cut_some c [] = omega arith
 cut_some c (x ∷ l) = by_end (eqb x c) (cut c l)
   where
@@ -43,21 +29,16 @@ on_first-length : (x : ℕ) (fs : List (List ℕ)) → 0 < length fs → length 
 on_first-length x [] h = absurd (omega arith)
 on_first-length x (f ∷ fs) h = refl
 
-pub cut_here : (c : ℕ) (l : List ℕ) (i : ℕ) → i < length l → get_or l i 0 ≡ c → length (cut c (drop i l)) ≡ suc (length (cut c (drop (i + 1) l)))
-cut_here c l i h e =
-    ap (λ (q : List ℕ). length (cut c q)) (drop-cons l i 0 h)
-    ∙ rw (eq-eqb (get_or l i 0) c e, add-one)
-
-pub cut-more : (c : ℕ) (l : List ℕ) (i : ℕ) → i < length l → (get_or l i 0 ≡ c → ⊥)
-    → length (cut c (drop i l)) ≡ length (cut c (drop (i + 1) l))
-cut-more c l i h n =
-    ap (λ (q : List ℕ). length (cut c q)) (drop-cons l i 0 h)
-    ∙ ap (λ (t : Bool). length (cond t ([] ∷ cut c (drop (suc i) l)) (on_first (get_or l i 0) (cut c (drop (suc i) l))))) (ne_eqb (get_or l i 0) c n)
-    ∙ on_first-length (get_or l i 0) (cut c (drop (suc i) l)) (cut_some c (drop (suc i) l))
-    ∙ ap (λ (k : ℕ). length (cut c (drop k l))) (sym (add-one i))
-
-pub cut_past : (c : ℕ) (l : List ℕ) (i : ℕ) → length l ≤ i → length (cut c (drop i l)) ≡ 1
-cut_past c l i h = ap (λ (q : List ℕ). length (cut c q)) (drop_of_length-le l h)
+-- there is one field more than there are separators
+pub cut-count : (c : ℕ) (l : List ℕ) → length (cut c l) ≡ suc (count_by (λ x. eqb x c) l)
+cut-count c l = omega (arith, cut_some c l, is_count_by (λ (m : List ℕ). length (cut c m) - 1) (λ x. eqb x c) refl separators l)
+  where
+    separators : (x : ℕ) (m : List ℕ) → length (cut c (x ∷ m)) - 1 ≡ cond (eqb x c) (1 + (length (cut c m) - 1)) (length (cut c m) - 1)
+    separators x m = by_test (eqb x c)
+      where
+        by_test : (t : Bool) → length (cond t ([] ∷ cut c m) (on_first x (cut c m))) - 1 ≡ cond t (1 + (length (cut c m) - 1)) (length (cut c m) - 1)
+        by_test true = omega (arith, cut_some c m)
+        by_test false = omega (arith, on_first-length x (cut c m) (cut_some c m))
 
 -- the first field and the others, by the test of the first character
 module _ (c x : ℕ) (l : List ℕ) where

@@ -9,7 +9,7 @@ use Rattle.text.proofs.write.add.Reads as add-reads
 use Rattle.text.proofs.write.decimal.Reads as decimal-reads
 use Rattle.text.proofs.write.hex.Reads as hex-reads
 use Rattle.text.proofs.write.hex8.Reads as hex8-reads
-use Rattle.text.proofs.packet.packet_line.Reads as packet-line-reads
+use Rattle.text.proofs.line.packet_line.Reads as packet-line-reads
 use Rattle.text.proofs.read.undecimal.Reads as undecimal-reads
 use Rattle.text.proofs.read.unhex8.Reads as unhex8-reads
 use Rattle.text.proofs.read.unhex.Reads as unhex-reads

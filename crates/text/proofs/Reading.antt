@@ -1,23 +1,22 @@
 -- Laws of reading numbers and bytes: the turns of each loop, and each way out of the calls.
-use Prim.Native.Nat.{ℕ, zero, suc, ◌+◌, ◌-◌, ◌*◌, ◌/◌, ◌%◌, ◌^◌, ◌<◌, ◌≤◌}
+use Prim.Native.Nat.{ℕ, zero, suc, ◌+◌, ◌*◌, ◌/◌, ◌%◌, ◌^◌, ◌<◌, ◌≤◌}
 use native.Mathlib.Omega.{arith}
-use native.Mathlib.Nat.{le-mul_of_pos_right, le-div_iff_mul-le, div-lt_iff_lt-mul, mul-le-mul_right, mul_assoc, pow-succ'}
+use native.Mathlib.Nat.{le-mul_of_pos_right, mul-le-mul_right, mul_assoc, pow-succ'}
 use native.Mathlib.Numerals.{add-one}
 use mathlib.Core.Bool.{Bool, true, false, ◌&&◌, cond, and-false}
 use mathlib.Core.List.{List, [], ◌∷◌, ◌++◌, append_assoc}
+use Rattle.std.specs.Prelude.{Option, Some, None, Ok, Err}
 use mathlib.Core.Path.{◌≡◌, refl, sym, ◌∙◌, ap, ap₂}
 use lib.Dec.{leb, ltb, eqb}
 use lib.ListN.{length, get_or, take, drop, set, drop_of_length-le}
 use lib.Seq.{drop-cons, take-suc, length-take-le}
 use borrow.Author.Tests.{lt-ltb, le-ltb, le-leb, lt-leb, eq-eqb, ne_eqb, leb-true, ltb-true}
+use Rattle.std.specs.List.{list_all}
 use Rattle.octets.specs.Place.{pasted}
 use Rattle.octets.proofs.Place.{placed-fits, placed-not}
 use Rattle.text.specs.Digits.{worth, digits, value, pairs}
 use Rattle.text.specs.Promise.{numeral, number_in, word_in, hexed, UnhexPromise}
-use Rattle.text.specs.declared.read.Number.{Number}
-use Rattle.text.specs.declared.read.Number.TheVariants as number
-use Rattle.text.specs.declared.read.Word.TheVariants as word
-use Rattle.text.specs.declared.read.Unhexed.TheVariants as unhexed
+use Rattle.text.specs.declared.read.UnhexError.TheVariants.{Bad, NoRoom}
 use Rattle.octets.proofs.Place.{pasted-more}
 
 -- more digits make no number less
@@ -26,10 +25,10 @@ value_least b v [] h = omega arith
 value_least b v (c ∷ s) h = omega (arith, le-mul_of_pos_right v h, value_least b (v * b + worth c) s h)
 
 -- what is left to read after the number v
-unfoldable pub left : ℕ → ℕ → ℕ → List ℕ → Number
-left b most v l = cond (digits b l && leb (value b v l) most) (number.Value (value b v l)) number.Bad
+unfoldable pub left : ℕ → ℕ → ℕ → List ℕ → Option ℕ
+left b most v l = cond (digits b l && leb (value b v l) most) (Some (value b v l)) None
 
-pub number_none : (b most : ℕ) (s : List ℕ) → length s ≡ 0 → number_in b most s ≡ number.Bad
+pub number_none : (b most : ℕ) (s : List ℕ) → length s ≡ 0 → number_in b most s ≡ None
 unfolding number_in numeral
 number_none b most [] e = refl
 number_none b most (c ∷ s) e = absurd (omega arith)
@@ -38,40 +37,40 @@ pub number_some : (b most : ℕ) (s : List ℕ) → (length s ≡ 0 → ⊥) →
 unfolding number_in numeral left
 number_some b most [] n = absurd (n refl)
 number_some b most (c ∷ s) n =
-    ap (λ (t : Bool). cond (t && digits b (c ∷ s) && leb (value b 0 (c ∷ s)) most) (number.Value (value b 0 (c ∷ s))) number.Bad)
+    ap (λ (t : Bool). cond (t && digits b (c ∷ s) && leb (value b 0 (c ∷ s)) most) (Some (value b 0 (c ∷ s))) None)
     (lt-ltb 0 (length (c ∷ s)) (omega arith))
 
 -- a character that is no digit
-left_none : (b most v c : ℕ) (l : List ℕ) → b ≤ worth c → left b most v (c ∷ l) ≡ number.Bad
+left_none : (b most v c : ℕ) (l : List ℕ) → b ≤ worth c → left b most v (c ∷ l) ≡ None
 unfolding left
 left_none b most v c l h = rw (le-ltb (worth c) b h)
 
 -- a number that is too large, whatever follows
-left_over : (b most v c : ℕ) (l : List ℕ) → 0 < b → most < v * b + worth c → left b most v (c ∷ l) ≡ number.Bad
+left_over : (b most v c : ℕ) (l : List ℕ) → 0 < b → most < v * b + worth c → left b most v (c ∷ l) ≡ None
 unfolding left
 left_over b most v c l g h =
     let w : ℕ = value b (v * b + worth c) l in
     let k : most < w = omega (arith, value_least b (v * b + worth c) l g) in
-    ap (λ (t : Bool). cond ((ltb (worth c) b && digits b l) && t) (number.Value w) number.Bad) (lt-leb w most k)
-    ∙ ap (λ (t : Bool). cond t (number.Value w) number.Bad) (and-false (ltb (worth c) b && digits b l))
+    ap (λ (t : Bool). cond ((ltb (worth c) b && digits b l) && t) (Some w) None) (lt-leb w most k)
+    ∙ ap (λ (t : Bool). cond t (Some w) None) (and-false (ltb (worth c) b && digits b l))
 
 left_on : (b most v c : ℕ) (l : List ℕ) → worth c < b → left b most v (c ∷ l) ≡ left b most (v * b + worth c) l
 unfolding left
 left_on b most v c l h = rw (lt-ltb (worth c) b h)
 
-left_end : (b most v : ℕ) → v ≤ most → left b most v [] ≡ number.Value v
+left_end : (b most v : ℕ) → v ≤ most → left b most v [] ≡ Some v
 unfolding left
 left_end b most v h = rw (le-leb v most h)
 
-module _ (b most v i : ℕ) (s : List ℕ) (r : Number) (e : left b most v (drop i s) ≡ r) where
+module _ (b most v i : ℕ) (s : List ℕ) (r : Option ℕ) (e : left b most v (drop i s) ≡ r) where
   here : i < length s → left b most v (get_or s i 0 ∷ drop (suc i) s) ≡ r
   here h = ap (left b most v) (sym (drop-cons s i 0 h)) ∙ e
 
   -- the ways out of a turn, and on
-  pub stop_none : i < length s → b ≤ worth (get_or s i 0) → number.Bad ≡ r
+  pub stop_none : i < length s → b ≤ worth (get_or s i 0) → None ≡ r
   stop_none h k = sym (left_none b most v (get_or s i 0) (drop (suc i) s) k) ∙ here h
 
-  pub stop_over : i < length s → 0 < b → most < v * b + worth (get_or s i 0) → number.Bad ≡ r
+  pub stop_over : i < length s → 0 < b → most < v * b + worth (get_or s i 0) → None ≡ r
   stop_over h g k = sym (left_over b most v (get_or s i 0) (drop (suc i) s) g k) ∙ here h
 
   pub go_on : i < length s → worth (get_or s i 0) < b → left b most (v * b + worth (get_or s i 0)) (drop (i + 1) s) ≡ r
@@ -80,36 +79,23 @@ module _ (b most v i : ℕ) (s : List ℕ) (r : Number) (e : left b most v (drop
       ∙ sym (left_on b most v (get_or s i 0) (drop (suc i) s) k)
       ∙ here h
 
-  pub at_end : length s ≤ i → v ≤ most → number.Value v ≡ r
+  pub at_end : length s ≤ i → v ≤ most → Some v ≡ r
   at_end h k = sym (left_end b most v k) ∙ ap (left b most v) (sym (drop_of_length-le s h)) ∙ e
 
--- the test that keeps the next number within its bound
-pub over : (b most v w : ℕ) → 0 < b → w ≤ most → (most - w) / b < v → most < v * b + w
-over b most v w g h k = omega (arith, (div-lt_iff_lt-mul g).0 k)
-
-pub within : (b most v w : ℕ) → 0 < b → w ≤ most → v ≤ (most - w) / b → v * b + w ≤ most
-within b most v w g h k = omega (arith, (le-div_iff_mul-le g).0 k)
-
 -- a number that was read is within its bound
-pub number_most : (b most v : ℕ) (s : List ℕ) → number.Value v ≡ number_in b most s → v ≤ most
+pub number_most : (b most v : ℕ) (s : List ℕ) → Some v ≡ number_in b most s → v ≤ most
 unfolding number_in
 number_most b most v s e = by_tests (numeral b s) (leb (value b 0 s) most) refl e
   where
-    by_tests : (t u : Bool) → leb (value b 0 s) most ≡ u → number.Value v ≡ cond (t && u) (number.Value (value b 0 s)) number.Bad → v ≤ most
+    by_tests : (t u : Bool) → leb (value b 0 s) most ≡ u → Some v ≡ cond (t && u) (Some (value b 0 s)) None → v ≤ most
     by_tests true true f g = let h : v ≡ value b 0 s = cc in omega (arith, leb-true (value b 0 s) most f)
     by_tests true false f g = let z : ◌≡◌ {A = ℕ} 0 1 = cc in absurd (omega arith)
     by_tests false u f g = let z : ◌≡◌ {A = ℕ} 0 1 = cc in absurd (omega arith)
 
--- whether all characters are digits, from a place on
-pub digits_none : (b i : ℕ) (s : List ℕ) (r : Bool) → digits b (drop i s) ≡ r → i < length s → b ≤ worth (get_or s i 0) → false ≡ r
-digits_none b i s r e h k = sym (ap (digits b) (drop-cons s i 0 h) ∙ rw (le-ltb (worth (get_or s i 0)) b k)) ∙ e
-
-pub digits_on : (b i : ℕ) (s : List ℕ) (r : Bool) → digits b (drop i s) ≡ r → i < length s → worth (get_or s i 0) < b → digits b (drop (i + 1) s) ≡ r
-digits_on b i s r e h k =
-    ap (λ (j : ℕ). digits b (drop j s)) (add-one i) ∙ sym (ap (digits b) (drop-cons s i 0 h) ∙ rw (lt-ltb (worth (get_or s i 0)) b k)) ∙ e
-
-pub digits_end : (b i : ℕ) (s : List ℕ) (r : Bool) → digits b (drop i s) ≡ r → length s ≤ i → true ≡ r
-digits_end b i s r e h = ap (digits b) (sym (drop_of_length-le s h)) ∙ e
+-- all characters are digits exactly where each passes the test
+pub digits-all : (b : ℕ) (s : List ℕ) → digits b s ≡ list_all (λ c. ltb (worth c) b) s
+digits-all b [] = refl
+digits-all b (c ∷ s) = ap (λ (t : Bool). ltb (worth c) b && t) (digits-all b s)
 
 -- digits: the first is one, and so are the others
 pub digits_both : (b c : ℕ) (s : List ℕ) → digits b (c ∷ s) ≡ true → (worth c < b) × (digits b s ≡ true)
@@ -172,20 +158,20 @@ unfolding hexed
 hexed_yes s e f = ap₂ ◌&&◌ (eq-eqb (length s % 2) 0 e) f
 
 -- the ways out of reading bytes
-pub unhex_bad : (d : List ℕ) (a : ℕ) (s : List ℕ) → hexed s ≡ false → UnhexPromise d a s unhexed.Bad d
+pub unhex_bad : (d : List ℕ) (a : ℕ) (s : List ℕ) → hexed s ≡ false → UnhexPromise d a s (Err Bad) d
 unhex_bad d a s e = record { answer = rw e; buffer = rw e }
 
-pub unhex_full : (d : List ℕ) (a : ℕ) (s : List ℕ) → hexed s ≡ true → length d < a + length s / 2 → UnhexPromise d a s unhexed.NoRoom d
+pub unhex_full : (d : List ℕ) (a : ℕ) (s : List ℕ) → hexed s ≡ true → length d < a + length s / 2 → UnhexPromise d a s (Err NoRoom) d
 unhex_full d a s e h =
     let k : length d < a + length (pairs s) = omega (arith, length_pairs s) in
     record { answer = rw (e, lt-leb (a + length (pairs s)) (length d) k); buffer = rw e (sym (placed-not d a (pairs s) k)) }
 
 pub unhex_done : (d : List ℕ) (a : ℕ) (s x : List ℕ) → hexed s ≡ true → a + length s / 2 ≤ length d → x ≡ pasted d a (pairs s)
-    → UnhexPromise d a s (unhexed.Bytes (length s / 2)) x
+    → UnhexPromise d a s (Ok (length s / 2)) x
 unhex_done d a s x e h f =
     let k : a + length (pairs s) ≤ length d = omega (arith, length_pairs s) in
     record {
-      answer = rw (e, le-leb (a + length (pairs s)) (length d) k) (ap unhexed.Bytes (sym (length_pairs s)));
+      answer = rw (e, le-leb (a + length (pairs s)) (length d) k) (ap Ok (sym (length_pairs s)));
       buffer = rw e (f ∙ sym (placed-fits d a (pairs s) k));
     }
 
@@ -200,7 +186,7 @@ value_below v (c ∷ s) e =
     omega (arith, value_below w s d.1, mul-le-mul_right p h, mul_assoc (v + 1) 16 p, ap (λ (k : ℕ). (v + 1) * k) (pow-succ' 16 (length s)))
 
 -- eight characters: a number exactly where all are digits
-word_number : (s : List ℕ) → length s ≡ 8 → number_in 16 0xffff_ffff s ≡ cond (digits 16 s) (number.Value (value 16 0 s)) number.Bad
+word_number : (s : List ℕ) → length s ≡ 8 → number_in 16 0xffff_ffff s ≡ cond (digits 16 s) (Some (value 16 0 s)) None
 unfolding number_in numeral
 word_number s e = by_test (digits 16 s) refl
   where
@@ -208,35 +194,35 @@ word_number s e = by_test (digits 16 s) refl
     big f = let p : 16 ^ length s ≡ 16 ^ 8 = ap (λ (k : ℕ). 16 ^ k) e in omega (arith, value_below 0 s f)
 
     by_test : (t : Bool) → digits 16 s ≡ t
-        → cond (ltb 0 (length s) && t && leb (value 16 0 s) 0xffff_ffff) (number.Value (value 16 0 s)) number.Bad
-        ≡ cond t (number.Value (value 16 0 s)) number.Bad
+        → cond (ltb 0 (length s) && t && leb (value 16 0 s) 0xffff_ffff) (Some (value 16 0 s)) None
+        ≡ cond t (Some (value 16 0 s)) None
     by_test true f =
         let h : 0 < length s = omega arith in
         rw (lt-ltb 0 (length s) h, le-leb (value 16 0 s) 0xffff_ffff (big f))
     by_test false f = let h : 0 < length s = omega arith in rw (lt-ltb 0 (length s) h)
 
-pub word-not : (s : List ℕ) → (length s ≡ 8 → ⊥) → word.Bad ≡ word_in s
+pub word-not : (s : List ℕ) → (length s ≡ 8 → ⊥) → None ≡ word_in s
 unfolding word_in
 word-not s n = rw (ne_eqb (length s) 8 n)
 
-pub word_value : (s : List ℕ) (v : ℕ) → length s ≡ 8 → number.Value v ≡ number_in 16 0xffff_ffff s → word.Value v ≡ word_in s
+pub word_value : (s : List ℕ) (v : ℕ) → length s ≡ 8 → Some v ≡ number_in 16 0xffff_ffff s → Some v ≡ word_in s
 unfolding word_in
 word_value s v e f =
     by_test (digits 16 s) (f ∙ word_number s e)
-    ∙ ap (λ (t : Bool). cond (t && digits 16 s) (word.Value (value 16 0 s)) word.Bad) (sym (eq-eqb (length s) 8 e))
+    ∙ ap (λ (t : Bool). cond (t && digits 16 s) (Some (value 16 0 s)) None) (sym (eq-eqb (length s) 8 e))
   where
-    by_test : (t : Bool) → number.Value v ≡ cond t (number.Value (value 16 0 s)) number.Bad
-        → word.Value v ≡ cond t (word.Value (value 16 0 s)) word.Bad
-    by_test true g = let h : v ≡ value 16 0 s = cc in ap word.Value h
+    by_test : (t : Bool) → Some v ≡ cond t (Some (value 16 0 s)) None
+        → Some v ≡ cond t (Some (value 16 0 s)) None
+    by_test true g = let h : v ≡ value 16 0 s = cc in ap Some h
     by_test false g = let z : ◌≡◌ {A = ℕ} 0 1 = cc in absurd (omega arith)
 
-pub word_bad : (s : List ℕ) → length s ≡ 8 → number.Bad ≡ number_in 16 0xffff_ffff s → word.Bad ≡ word_in s
+pub word_bad : (s : List ℕ) → length s ≡ 8 → None ≡ number_in 16 0xffff_ffff s → None ≡ word_in s
 unfolding word_in
 word_bad s e f =
     by_test (digits 16 s) (f ∙ word_number s e)
-    ∙ ap (λ (t : Bool). cond (t && digits 16 s) (word.Value (value 16 0 s)) word.Bad) (sym (eq-eqb (length s) 8 e))
+    ∙ ap (λ (t : Bool). cond (t && digits 16 s) (Some (value 16 0 s)) None) (sym (eq-eqb (length s) 8 e))
   where
-    by_test : (t : Bool) → number.Bad ≡ cond t (number.Value (value 16 0 s)) number.Bad
-        → word.Bad ≡ cond t (word.Value (value 16 0 s)) word.Bad
+    by_test : (t : Bool) → None ≡ cond t (Some (value 16 0 s)) None
+        → None ≡ cond t (Some (value 16 0 s)) None
     by_test true g = let z : ◌≡◌ {A = ℕ} 0 1 = cc in absurd (omega arith)
     by_test false g = refl

@@ -1,10 +1,10 @@
 -- The line that the small program writes (docs/RULES.md, 8.1). A word is given by its characters' codes, with the space after it.
-use Rattle.std.specs.Prelude.{ℕ, ◌≤◌, List, [], ◌∷◌, ◌++◌, ◌≡◌, length}
+use Rattle.std.specs.Prelude.{ℕ, ◌≤◌, List, [], ◌∷◌, ◌++◌, Result, Ok, Err, ◌≡◌, length}
 use Rattle.octets.specs.Place.{begun}
 use Rattle.refusal.specs.Table.{number_of}
+use Rattle.refusal.specs.declared.Refusal.{Refusal}
 use Rattle.text.specs.Digits.{decimal, hex8}
-use Rattle.text.specs.declared.packet.Telling.{Telling}
-use Rattle.text.specs.declared.packet.Telling.TheVariants.{Packet, Refused}
+use Rattle.text.specs.declared.line.Packet.{Packet}
 
 -- `type `
 abbrev pub type_word : List ℕ
@@ -40,9 +40,9 @@ abbrev pub refused_line : ℕ → List ℕ
 refused_line n = refused_word ++ decimal n ++ newline
 
 -- the line of either
-abbrev pub line_of : Telling → List ℕ
-line_of (Packet kind id seq len) = packet_line kind id seq len
-line_of (Refused r) = refused_line (number_of r)
+abbrev pub line_of : Result Packet Refusal → List ℕ
+line_of (Ok p) = packet_line p.kind p.id p.seq p.len
+line_of (Err r) = refused_line (number_of r)
 
 -- the line l stands at the start of what was d, and n is its length
 pub record Begins (d l : List ℕ) (n : ℕ) (exit : List ℕ) : Type 0 where

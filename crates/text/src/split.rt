@@ -7,27 +7,17 @@ ghost use Rattle.text.specs.Fields.{upto, cut};
 pub fn field_end(line: &[u8], from: usize, separator: u8) -> usize
     ensures { result ≡ from + length (upto separator (drop from line.now)) }
 {
-    let mut at = from;
-    while at < line.len() {
+    for at in from..line.len() {
         if line[at] == separator {
             return at;
         }
-        at += 1;
     }
-    at
+    line.len().max(from)
 }
 
 // How many fields the line has: one more than separators.
 pub fn fields(line: &[u8], separator: u8) -> usize
     ensures { result ≡ length (cut separator line.now) }
 {
-    let mut n: usize = 0;
-    let mut at: usize = 0;
-    while at < line.len() {
-        if line[at] == separator {
-            n += 1;
-        }
-        at += 1;
-    }
-    n + 1
+    line.iter().filter(|c| **c == separator).count() + 1
 }

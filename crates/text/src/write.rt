@@ -26,6 +26,8 @@ fn has_room(c: Cursor, m: usize, n: usize) -> bool
 }
 
 // Adds bytes as they are.
+// No method: the buffer stays with its owner between two calls, so a call names both either way, and `c.add(out, s)` is no
+// plainer than `add(out, c, s)`.
 pub fn add(out: &mut [u8], c: Cursor, s: &[u8]) -> Cursor
     ensures { AddPromise out.old c s.now result out.new }
 {
@@ -55,6 +57,7 @@ fn put_decimal(out: &mut [u8], n: u64) -> usize
 {
     let mut at: usize = 20;
     let mut rest = n;
+    // No `for`: how many digits there are shows only as they are made.
     while 10 <= rest {
         at -= 1;
         out[at] = spell_digit((rest % 10) as u8);
@@ -79,11 +82,9 @@ fn put_hex(out: &mut [u8], at: usize, s: &[u8])
     requires { at + 2 * length s.now ≤ length out.old }
     ensures { out.new ≡ pasted out.old at (hex s.now) }
 {
-    let mut i: usize = 0;
-    while i < s.len() {
-        out[at + 2 * i] = spell_digit(s[i] / 16);
-        out[at + 2 * i + 1] = spell_digit(s[i] % 16);
-        i += 1;
+    for (i, b) in s.iter().enumerate() {
+        out[at + 2 * i] = spell_digit(*b / 16);
+        out[at + 2 * i + 1] = spell_digit(*b % 16);
     }
 }
 

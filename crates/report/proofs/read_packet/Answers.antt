@@ -1,16 +1,17 @@
 -- `read_packet` keeps its promise: one law for each answer.
 use Prim.Native.Nat.{◌<◌}
 use native.Mathlib.Omega.{arith}
-use mathlib.Core.Path.{◌≡◌}
+use mathlib.Core.Path.{◌≡◌, sym, ◌∙◌}
 use lib.ListN.{length}
+use borrow.Author.Tests.{eqb-true, eqb-false}
 use Rattle.report.specs.Told.{longest}
 use Rattle.report.proofs.Telling.{none, long, finds}
 use Rattle.report.proofs.read_packet.Goals as goal
 
-pub returns-then-packet-eq0 : goal.returns-then-packet-eq0
-returns-then-packet-eq0 c =
+pub returns-then-is_empty : goal.returns-then-is_empty
+returns-then-is_empty c =
     let l = c.args.packet.now in
-    let h : length l ≡ 0 = omega arith in
+    let h : length l ≡ 0 = eqb-true (length l) 0 (sym c.is_empty.ensures ∙ c.if-is_empty.true) in
     none l h
 
 pub returns-then-packet-gt-LONGEST : goal.returns-then-packet-gt-LONGEST
@@ -22,6 +23,8 @@ returns-then-packet-gt-LONGEST c =
 pub returns : goal.returns
 returns c =
     let telling = c.make_telling in
+    let l = c.args.packet.now in
+    let h : (length l ≡ 0 → ⊥) = eqb-false (length l) 0 (sym c.is_empty.ensures ∙ c.if-is_empty.false) in
     finds _ _ _ _ telling.result (omega arith) (omega arith) c.make_session.ensures
     c.read_checked-r.ensures
     telling.ensures

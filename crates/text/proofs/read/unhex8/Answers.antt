@@ -8,21 +8,10 @@ pub returns-then-s-ne8 : goal.returns-then-s-ne8
 returns-then-s-ne8 c = word-not c.args.s.now c.if-s-ne8.true
 
 pub overflow_cast-result : goal.overflow_cast-result
-overflow_cast-result c =
-    let read_number = c.read_number in
-    let a = c.args in
-    omega (arith, number_most 16 0xffff_ffff _ a.s.now (sym c.in-Value.is ∙ read_number.ensures))
+overflow_cast-result c = omega (arith, number_most 16 0xffff_ffff _ c.args.s.now (sym c.in_ok-v.was ∙ c.read_number.ensures))
 
-pub returns-in-Value : goal.returns-in-Value
-returns-in-Value c =
-    let read_number = c.read_number in
-    let if1 = c.if-s-ne8 in
-    let a = c.args in
-    word_value a.s.now _ if1.false (sym c.in-Value.is ∙ read_number.ensures)
+pub returns : goal.returns
+returns c = word_value c.args.s.now _ c.if-s-ne8.false (sym c.in_ok-v.was ∙ c.read_number.ensures)
 
-pub returns-in-Bad : goal.returns-in-Bad
-returns-in-Bad c =
-    let read_number = c.read_number in
-    let if1 = c.if-s-ne8 in
-    let a = c.args in
-    word_bad a.s.now if1.false (sym c.in-Bad.is ∙ read_number.ensures)
+pub returns-in_err-v : goal.returns-in_err-v
+returns-in_err-v c = c.from_residual.ensures ∙ word_bad c.args.s.now c.if-s-ne8.false (sym c.in_err-v.was ∙ c.read_number.ensures)

@@ -1,21 +1,15 @@
+-- `fields` keeps its promise: one more than separators.
+use Prim.Native.Nat.{ℕ}
+use mathlib.Core.Path.{◌≡◌}
+use lib.Dec.{eqb}
 use native.Mathlib.Omega.{arith}
-use Rattle.text.proofs.Cuts.{cut_here, cut-more}
+use Rattle.std.proofs.Common.{rules}
+use Rattle.std.specs.List.{count_by}
+use Rattle.text.proofs.Cuts.{cut-count}
 use Rattle.text.proofs.split.fields.Goals as goal
-use Rattle.text.proofs.split.fields.Goals.{then-line-at, else-line-at}
 
-pub loop-at-preserved : goal.loop-at-preserved
-loop-at-preserved c =
-    let l = c.loop-at in
+pub returns : goal.returns
+returns c =
     let a = c.args in
-    elim c.if-line-at.branch [
-      | then-line-at w ↦ (
-        omega arith,
-        omega arith,
-        omega (arith, cut_here a.separator a.line.now l.at (omega arith) w.if-line-at.true, l.invariant.2),
-      )
-      | else-line-at w ↦ (
-        omega arith,
-        omega arith,
-        omega (arith, cut-more a.separator a.line.now l.at (omega arith) w.if-line-at.false, l.invariant.2),
-      )
-    ]
+    let e : c.count.result ≡ count_by (λ (x : ℕ). eqb x a.separator) a.line.now = search rules in
+    omega (arith, e, cut-count a.separator a.line.now)

@@ -4,7 +4,7 @@ use lib.ListN.{take}
 use Rattle.octets.proofs.Place.{begun_take}
 use Rattle.text.specs.Line.{line_of}
 use Rattle.text.proofs.Writing.{add_of}
-use Rattle.text.proofs.packet.packet_line.Goals as goal
+use Rattle.text.proofs.line.packet_line.Goals as goal
 
 pub returns : goal.returns
 returns c =

@@ -6,32 +6,29 @@ ghost use Rattle.text.specs.Promise.{AddPromise};
 use crate::write::{Cursor, add, decimal, hex8};
 use refusal::Refusal;
 
-// What is told of a packet: its numbers, or a refusal.
+// The numbers of a packet that was read.
 #[derive(Clone, Copy)]
-pub enum Telling {
-    Packet {
-        kind: u8,
-        id: u32,
-        seq: u32,
-        len: usize,
-    },
-    Refused(Refusal),
+pub struct Packet {
+    pub kind: u8,
+    pub id: u32,
+    pub seq: u32,
+    pub len: usize,
 }
 
 // The line of a packet at the start of `out`, and its length.
-fn write_packet(out: &mut [u8], kind: u8, id: u32, seq: u32, len: usize) -> usize
+fn write_packet(out: &mut [u8], p: Packet) -> usize
     requires { 64 ≤ length out.old }
-    ensures { Begins out.old (line_of (Telling.Packet kind id seq len)) result out.new }
+    ensures { Begins out.old (line_of (Ok p)) result out.new }
 {
     let c = Cursor { at: 0, full: false };
     let c = add(out, c, b"type ");
-    let c = decimal(out, c, kind as u64);
+    let c = decimal(out, c, p.kind as u64);
     let c = add(out, c, b" id ");
-    let c = hex8(out, c, id);
+    let c = hex8(out, c, p.id);
     let c = add(out, c, b" seq ");
-    let c = hex8(out, c, seq);
+    let c = hex8(out, c, p.seq);
     let c = add(out, c, b" payload ");
-    let c = decimal(out, c, len as u64);
+    let c = decimal(out, c, p.len as u64);
     let c = add(out, c, b"\n");
     c.at
 }
@@ -39,7 +36,7 @@ fn write_packet(out: &mut [u8], kind: u8, id: u32, seq: u32, len: usize) -> usiz
 // The line of a refusal at the start of `out`, and its length.
 fn write_refusal(out: &mut [u8], r: Refusal) -> usize
     requires { 64 ≤ length out.old }
-    ensures { Begins out.old (line_of (Telling.Refused r)) result out.new }
+    ensures { Begins out.old (line_of (Err r)) result out.new }
 {
     let c = Cursor { at: 0, full: false };
     let c = add(out, c, b"refused ");
@@ -49,18 +46,19 @@ fn write_refusal(out: &mut [u8], r: Refusal) -> usize
 }
 
 // The line of either at the start of `out`, and its length: at most 63 characters.
-fn write_line(out: &mut [u8], t: Telling) -> usize
+fn write_line(out: &mut [u8], t: Result<Packet, Refusal>) -> usize
     requires { 64 ≤ length out.old }
     ensures { Begins out.old (line_of t) result out.new }
 {
     match t {
-        Telling::Packet { kind, id, seq, len } => write_packet(out, kind, id, seq, len),
-        Telling::Refused(r) => write_refusal(out, r),
+        Ok(p) => write_packet(out, p),
+        Err(r) => write_refusal(out, r),
     }
 }
 
-// Adds the line of what is told, with the newline that ends it. It is made beside first, since all of it goes in or nothing.
-pub fn packet_line(out: &mut [u8], c: Cursor, t: Telling) -> Cursor
+// Adds the line of what is told: a packet's numbers, or a refusal. The newline that ends the line goes with it. The line is
+// made beside first, since all of it goes in or nothing.
+pub fn packet_line(out: &mut [u8], c: Cursor, t: Result<Packet, Refusal>) -> Cursor
     ensures { AddPromise out.old c (line_of t) result out.new }
 {
     let mut line = [0u8; 64];

@@ -7,7 +7,7 @@ use Rattle.text.specs.Digits.{decimal}
 use Rattle.text.specs.Line.{refused_word, newline}
 use Rattle.text.proofs.Tens.{decimal-length}
 use Rattle.text.proofs.Lines.{wrote_none, wrote_more, wrote_all}
-use Rattle.text.proofs.packet.write_refusal.Goals as goal
+use Rattle.text.proofs.line.write_refusal.Goals as goal
 
 pub returns : goal.returns
 returns c =

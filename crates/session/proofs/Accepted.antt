@@ -17,6 +17,7 @@ use Rattle.messages.specs.Rakp.{message1, message3, fields4, message4}
 use Rattle.messages.specs.declared.rakp_2.RakpMessage2.{RakpMessage2}
 use Rattle.messages.specs.declared.rakp_4.RakpMessage4.{RakpMessage4}
 use Rattle.messages.proofs.Names.{taken_name}
+use Rattle.session.specs.Constants.{request_size}
 use Rattle.session.specs.Record.{step_number, in_step, answered, keyed, opened}
 use Rattle.session.specs.Steps.{Made, level_allowed, ready_begin, made_begin, begin_of, ready_open, heard_open, one_to, made_open, open_of}
 use Rattle.session.specs.Steps.{ready_two, heard_two, code_two, sik_two, code_three, three_of, made_two, proved_two, two_of, ready_four, value_four, heard_four, four_of}
@@ -37,6 +38,7 @@ pub begin_tells : (asked : Asked) (name : List ℕ) (room : ℕ) (M : Made)
     × (length name ≤ longest_name)
     × (allowed name ≡ true)
     × (M ≡ made_begin asked (stored name))
+    × (request_size ≤ room)
 unfolding begin_of ready_begin
 begin_tells asked name room M e =
     let a = then_inv _ _ _ e in
@@ -51,6 +53,7 @@ begin_tells asked name room M e =
       d.0,
       d.1,
       sym g ∙ ap (λ (n : List ℕ). made_begin asked (stored n)) (sym d.2),
+      leb-true _ _ f.0,
     )
 
 -- the open response

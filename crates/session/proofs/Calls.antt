@@ -2,29 +2,31 @@
 -- leave, it is an exchange that went well, or one that is refused where message 4 has another value. Of the calls nothing is used but
 -- their contracts and what the types of their arguments say.
 use Prim.Native.Nat.{ℕ, ◌^◌, ◌<◌}
+use Rattle.std.specs.Prelude.{Result, Ok}
 use native.Mathlib.Omega.{arith}
-use mathlib.Core.Bool.{true, false}
+use mathlib.Core.Bool.{true}
 use mathlib.Core.List.{List, [], ◌++◌}
 use mathlib.Core.Path.{◌≡◌, refl, sym, ◌∙◌, ap, ap₂}
 use lib.ListN.{length, take}
 use Rattle.refusal.specs.Call.{Call}
 use Rattle.refusal.specs.Order.{Res, refuse, accept, done}
-use Rattle.refusal.specs.Outcome.{told}
-use Rattle.refusal.specs.declared.Outcome.TheVariants.{Done}
+use Rattle.refusal.specs.Answer.{told}
+use Rattle.refusal.specs.declared.Refusal.{Refusal}
 use Rattle.refusal.proofs.Order.{pass, need_no}
-use Rattle.refusal.proofs.Told.{outcome_one}
+use Rattle.refusal.proofs.Answer.{answer_one, outcome_one}
+use Rattle.suite.specs.declared.SubState.{SubState}
 use Rattle.octets.specs.Place.{begun}
 use Rattle.octets.proofs.Place.{begun_take}
 use Rattle.messages.specs.Name.{stored}
 use Rattle.session.specs.Constants.{longest_password}
-use Rattle.session.specs.Record.{in_step, closed, no_keys, none_agreed, opened}
+use Rattle.session.specs.Record.{in_step, closed, opened}
 use Rattle.session.specs.Steps.{Made, made_begin, begin_of, open_of, two_of, four_of}
-use Rattle.session.specs.Promise.{record_after, written, StepPromise, SessionPromise, session_with, session_of}
+use Rattle.session.specs.Promise.{record_after, written, StepPromise, SessionPromise, session_with}
 use Rattle.session.specs.System.{System, head_to, response, second, value_in, fourth}
 use Rattle.session.specs.Exchange.{Seen, sent, Suits, Wrote, Hears, Opened, Exchange, Refuses}
 use Rattle.session.specs.declared.Asked.{Asked}
 use Rattle.session.specs.declared.Record.{Record}
-use Rattle.session.specs.declared.state.Established.{Established}
+use Rattle.session.proofs.Stages.{told_refused}
 use Rattle.session.proofs.Accepting.{is_in_step, begin_accepts}
 use Rattle.session.proofs.Exchange.{StepsAgree, exchanged}
 use Rattle.session.proofs.request.begin.Kinds as begin-kinds
@@ -106,25 +108,22 @@ module _ (R : Res Made) (M : Made) (s : Record) (c : Seen) (p : StepPromise R s 
   made_wrote : Wrote c
   made_wrote =
       record {
-        done = outcome_one c.answer.answer Done made.answer;
+        done = outcome_one c.answer.answer (Ok tt) made.answer;
         len = ap length made_sent ∙ sym made.len;
         rest = made.buffer ∙ ap (λ (x : List ℕ). begun x c.lent) (sym made_sent);
       }
 
 -- what `sub_state` hands out of an open record, and of a closed one
-session_open : (s t : Record) (e : Established) → s ≡ t → SessionPromise s e → in_step t 4 ≡ true
-    → (e.answer ≡ Done) × (e.session ≡ session_with t.keys t.agreed)
-unfolding session_of
+session_open : (s t : Record) (e : Result SubState Refusal) → s ≡ t → SessionPromise s e → in_step t 4 ≡ true
+    → e ≡ Ok (session_with t.keys t.agreed)
 session_open s t e q p h =
     let g : in_step s 4 ≡ true = ap (λ (u : Record). in_step u 4) q ∙ h in
-    (outcome_one e.answer Done (p.answer ∙ pass _ _ _ _ g refl), p.session ∙ ap₂ session_of q g)
+    answer_one (λ z. z) (λ _ _ f. f) e (Ok (session_with t.keys t.agreed))
+    (p.answer ∙ pass _ _ _ _ g (ap (λ (u : Record). accept (session_with u.keys u.agreed)) q))
 
-session_none : (s : Record) (e : Established) → s ≡ closed → SessionPromise s e
-    → (told e.answer ≡ refuse 33 0) × (e.session ≡ session_with no_keys none_agreed)
-unfolding session_of in_step closed
-session_none s e q p =
-    let h : in_step s 4 ≡ false = ap (λ (u : Record). in_step u 4) q in
-    (p.answer ∙ need_no _ _ _ _ h, p.session ∙ ap₂ session_of q h)
+session_none : (s : Record) (e : Result SubState Refusal) → s ≡ closed → SessionPromise s e → told e ≡ refuse 33 0
+unfolding in_step closed
+session_none s e q p = told_refused (λ z. z) e 33 0 (p.answer ∙ need_no _ _ _ _ (ap (λ (u : Record). in_step u 4) q))
 
 -- equals for equals: message 2's step, the system's message 4, what it makes of the messages, what it has of a record
 two_same : {s t : Record} {k l p q m n : List ℕ} (room : ℕ) → s ≡ t → k ≡ l → p ≡ q → m ≡ n
@@ -214,8 +213,7 @@ module _ (y : System) (c : Calls y) where
       four_next : z.message_4.answer.state ≡ opened steps.keyed.next
       four_next = z.message_4.kept.next ∙ ap (record_after z.message_4.args.0) four_made
 
-      handed : (z.sub_state.answer.answer ≡ Done)
-          × (z.sub_state.answer.session ≡ session_with z.message_4.answer.state.keys z.message_4.answer.state.agreed)
+      handed : z.sub_state.answer ≡ Ok (session_with z.message_4.answer.state.keys z.message_4.answer.state.agreed)
       unfolding opened
       handed =
           let h = is_in_step (opened steps.keyed.next) 4 refl steps.named in
@@ -229,11 +227,10 @@ module _ (y : System) (c : Calls y) where
             accepts_response = made_wrote _ steps.answered c.opening.args.0 one c.opening.kept open_made;
             accepts_two = made_wrote _ steps.keyed c.message_2.args.0 three c.message_2.kept two_made;
             hears = hears_same y sent₀ sent₁ sent₃ asked name random steps.hears;
-            accepts_four = outcome_one z.message_4.answer.answer Done (z.message_4.kept.answer ∙ ap done four_made);
+            accepts_four = outcome_one z.message_4.answer.answer (Ok tt) (z.message_4.kept.answer ∙ ap done four_made);
             writes_nothing = z.message_4.kept.len ∙ ap (λ (r : Res Made). length (written z.message_4.args.0 r)) four_made;
             opens = z₁;
-            establishes = handed.0;
-            session = handed.1 ∙ ap₂ session_with z₁.keys z₁.agreed;
+            establishes = handed ∙ ap₂ (λ k g. Ok (session_with k g)) z₁.keys z₁.agreed;
           }
 
     -- any other value in its place
@@ -253,6 +250,5 @@ module _ (y : System) (c : Calls y) where
             refuses = z.message_4.kept.answer ∙ ap done four_stopped;
             writes_nothing = z.message_4.kept.len ∙ ap (λ (r : Res Made). length (written z.message_4.args.0 r)) four_stopped;
             closes = four_closed;
-            refuses_session = n.0;
-            session = n.1;
+            refuses_session = n;
           }

@@ -5,6 +5,8 @@ use mathlib.Core.Bool.{Bool, true, false, not, false≢true, ◌&&◌, ◌||◌}
 use mathlib.Core.List.{List}
 use mathlib.Core.Path.{◌≡◌, refl, sym, ◌∙◌, ap, ap₂}
 use lib.Dec.{eqb, leb}
+use denote.Enum.Bare.{sameb}
+use denote.Enum.Declared.{tag_of}
 use lib.ListN.{length}
 use borrow.Author.Tests.{le-leb, lt-leb, eq-eqb, ne_eqb, leb-true, eqb-true}
 use Rattle.refusal.specs.Order.{refuse, accept, need}
@@ -13,7 +15,7 @@ use Rattle.messages.specs.Auth.{is_level, authentication_code, integrity_code, c
 use Rattle.messages.specs.OpenSession.{level_byte, response_numbers, open_response}
 use Rattle.messages.specs.declared.open_session.RequestedPrivilege.{RequestedPrivilege}
 use Rattle.messages.specs.Rakp.{message2, message4}
-use Rattle.messages.specs.declared.open_session.RequestedPrivilege.TheVariants.{None, Level}
+use Rattle.messages.specs.declared.open_session.RequestedPrivilege.TheVariants.{Level}
 use Rattle.messages.specs.declared.open_session.OpenSessionResponse.{OpenSessionResponse}
 use Rattle.messages.specs.declared.rakp_2.RakpMessage2.{RakpMessage2}
 use Rattle.messages.specs.declared.rakp_4.RakpMessage4.{RakpMessage4}
@@ -21,19 +23,23 @@ use Rattle.session.specs.Constants.{open_tag, tag1, tag3, kg_size, legal_kg, cod
 use Rattle.session.specs.Record.{step_number, in_step}
 use Rattle.session.specs.Steps.{level_allowed, ready_begin, ready_open, carried, heard_open, ready_two, heard_two, ready_four, heard_four, value_four}
 use Rattle.session.specs.declared.Asked.{Asked}
+use Rattle.session.specs.contracts.Step.{the_type}
+use Rattle.session.specs.declared.Step.{Step}
+use Rattle.session.specs.declared.Step.TheVariants.{Closed, OpenResponse, Message2, Message4, Open}
 use Rattle.session.specs.declared.Record.{Record}
 use Rattle.octets.specs.Equal.{same}
 use lib.ListN.{drop}
 
--- in which step
-module _ (s : Record) (k n : ℕ) (e : n ≡ step_number s.step) where
-  pub in_no : (n ≡ k → ⊥) → false ≡ in_step s k
-  unfolding in_step
-  in_no d = sym (ap (λ (t : Bool). t && leb s.begun.username.len 16) (ne_eqb (step_number s.step) k (λ h. d (e ∙ h))))
+-- in which step: a step's number is its place among the steps
+step_tag : (s : Step) → tag_of the_type s ≡ step_number s
+step_tag Closed = refl
+step_tag OpenResponse = refl
+step_tag Message2 = refl
+step_tag Message4 = refl
+step_tag Open = refl
 
-  pub in_yes : n ≡ k → leb s.begun.username.len 16 ≡ in_step s k
-  unfolding in_step
-  in_yes h = sym (ap (λ (t : Bool). t && leb s.begun.username.len 16) (eq-eqb (step_number s.step) k (sym e ∙ h)))
+pub same_step : (t : Bool) (s k : Step) → t ≡ sameb the_type s k → t ≡ eqb (step_number s) (step_number k)
+same_step t s k e = e ∙ ap₂ eqb (step_tag s) (step_tag k)
 
 and_right : (a b : Bool) → (a && b) ≡ true → b ≡ true
 and_right true b e = e
@@ -51,25 +57,16 @@ module _ (asked : Asked) where
   begin20 e = sym (need_no _ _ _ _ (ap not (eq-eqb _ 0 e)))
 
   module _ (d : asked.console ≡ 0 → ⊥) where
-    pub begin_none : asked.level ≡ None → accept tt ≡ ready_begin asked
+    pub begin_ready : level_allowed asked.level ≡ true → accept tt ≡ ready_begin asked
     unfolding ready_begin
-    begin_none e = sym (pass _ _ _ _ (ap not (ne_eqb _ 0 d)) (pass _ _ _ _ (ap level_allowed e) refl))
+    begin_ready e = sym (pass _ _ _ _ (ap not (ne_eqb _ 0 d)) (pass _ _ _ _ e refl))
 
-    pub begin_level : (b : ℕ) → asked.level ≡ Level b → true ≡ is_level b → accept tt ≡ ready_begin asked
-    unfolding ready_begin
-    begin_level b e f = sym (pass _ _ _ _ (ap not (ne_eqb _ 0 d)) (pass _ _ _ _ (ap level_allowed e ∙ sym f) refl))
-
-    pub begin19 : (b : ℕ) → asked.level ≡ Level b → false ≡ is_level b → refuse 19 b ≡ ready_begin asked
+    pub begin19 : (b : ℕ) → asked.level ≡ Level b → is_level b ≡ false → refuse 19 b ≡ ready_begin asked
     unfolding ready_begin
     begin19 b e f =
         sym
         (pass _ _ _ _ (ap not (ne_eqb _ 0 d))
-        (need_no _ _ _ _ (ap level_allowed e ∙ sym f) ∙ ap (λ (l : RequestedPrivilege). refuse 19 (level_byte l)) e))
-
-  -- what is known of the level once they passed
-  pub begin_known : ready_begin asked ≡ accept tt → level_allowed asked.level ≡ true
-  unfolding ready_begin
-  begin_known e = (need_inv _ _ _ _ (need_inv _ _ _ _ e).1).0
+        (need_no _ _ _ _ (ap level_allowed e ∙ f) ∙ ap (λ (l : RequestedPrivilege). refuse 19 (level_byte l)) e))
 
 -- before the open response is looked at
 module _ (s : Record) (room : ℕ) where

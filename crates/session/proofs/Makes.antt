@@ -1,6 +1,7 @@
 -- What the steps make: the codes they compute, the messages they write, the records they leave.
 use Prim.Native.Nat.{ℕ, ◌-◌, ◌≤◌}
 use native.Mathlib.Omega.{arith}
+use Rattle.std.specs.Prelude.{Ok, Err}
 use mathlib.Core.Bool.{Bool, true, false}
 use mathlib.Core.List.{List}
 use mathlib.Core.Path.{◌≡◌, refl, sym, ◌∙◌, ap, ap₂}
@@ -8,9 +9,8 @@ use lib.Dec.{leb}
 use lib.ListN.{length, take, drop, length-append}
 use lib.Seq.{length-take-le}
 use borrow.Author.Tests.{le-leb}
-use Rattle.refusal.specs.Order.{Res, refuse, accept, done}
-use Rattle.refusal.specs.declared.Refusal.TheVariants.{Declined, WrongStep}
-use Rattle.refusal.proofs.Order.{refuse≢accept, pass, need_no, done_yes}
+use Rattle.refusal.specs.Order.{refuse, accept}
+use Rattle.refusal.specs.declared.Refusal.TheVariants.{Declined}
 use Rattle.octets.specs.Equal.{same}
 use Rattle.octets.specs.Place.{begun}
 use Rattle.octets.proofs.Place.{to_end}
@@ -21,34 +21,25 @@ use Rattle.sha1_hmac.specs.declared.Hashed.{Hashed}
 use Rattle.running.proofs.Promised.{yes}
 use Rattle.sha1_hmac.proofs.Laws.{mac_length}
 use Rattle.keys.specs.Chosen.{absent, key_of}
-use Rattle.keys.specs.declared.keys.Keys.{Keys}
-use Rattle.suite.specs.declared.SubState.{SubState}
-use Rattle.refusal.specs.Outcome.{told}
 use Rattle.messages.specs.Name.{name_of}
 use Rattle.messages.specs.OpenSession.{open_request, response_numbers}
 use Rattle.messages.specs.Promises.{WritePromise}
 use Rattle.messages.specs.Rakp.{message1, message3, declined3, message4, fields2, fields4}
-use Rattle.refusal.specs.declared.Outcome.{Outcome}
-use Rattle.refusal.specs.declared.Outcome.TheVariants as outcome
 use Rattle.messages.specs.declared.rakp.Written.{Written}
 use Rattle.messages.specs.declared.open_session.OpenSessionResponse.{OpenSessionResponse}
 use Rattle.messages.specs.declared.rakp_1.Username.{Username}
 use Rattle.messages.specs.declared.rakp_2.RakpMessage2.{RakpMessage2}
-use Rattle.messages.specs.declared.rakp_2.RakpAnswer2.{RakpAnswer2}
 use Rattle.messages.specs.declared.rakp_4.RakpMessage4.{RakpMessage4}
 use Rattle.messages.proofs.Writing.{wrote, size1}
 use Rattle.messages.proofs.Answered.{found_2, found_4}
 use Rattle.session.specs.Constants.{code_size, request_size, one_size, three_size}
-use Rattle.session.specs.Record.{in_step, closed, no_keys, none_agreed, begun_of, begun_with, answered, keyed}
+use Rattle.session.specs.Record.{closed, begun_of, begun_with, answered, keyed}
 use Rattle.session.specs.Steps.{heard_two, request_of, made_begin, one_to, made_open, three_of, made_two}
 use Rattle.session.specs.Steps.{sik_two, code_three, value_four}
-use Rattle.session.specs.Parts.{HeardTwo}
-use Rattle.session.specs.Promise.{StepPromise, SessionPromise, session_with, session_of}
+use Rattle.session.specs.Promise.{StepPromise}
 use Rattle.session.specs.declared.Asked.{Asked}
 use Rattle.session.specs.declared.Begun.{Begun}
-use Rattle.session.specs.declared.Agreed.{Agreed}
 use Rattle.session.specs.declared.Record.{Record}
-use Rattle.refusal.specs.declared.Outcome.TheVariants.{Done, Refused}
 use Rattle.session.proofs.Stages.{step_made}
 use Rattle.session.proofs.Chains.{two_found}
 
@@ -70,7 +61,7 @@ key_short kg password h g = by (absent kg) refl
 -- Begin: the request, and the record
 pub begin_made : (asked : Asked) (u : Username) (out : List ℕ) (b : Begun) (st : Record) (w : Written) (x : List ℕ) → b ≡ begun_of asked u
     → st ≡ begun_with b → WritePromise (request_of asked) out w x → request_size ≤ length out
-    → StepPromise (accept (made_begin asked u)) closed out (record { state = st; answer = Done; len = request_size }) x
+    → StepPromise (accept (made_begin asked u)) closed out (record { state = st; answer = Ok tt; len = request_size }) x
 unfolding made_begin request_of open_request
 begin_made asked u out b st w x e f p h =
     step_made (made_begin asked u) closed out st request_size x (f ∙ ap begun_with e) refl (wrote _ out w x p h).1
@@ -84,7 +75,7 @@ pub open_made : (s : Record) (r : OpenSessionResponse) (rm out : List ℕ) (st :
     → n ≡ s.begun.username.len → st ≡ answered s (response_numbers r) rm
     → WritePromise (message1 (one_to r.system s rm)) out w x
     → length rm ≡ 16 → length s.begun.username.bytes ≡ 16 → s.begun.username.len ≤ 16 → one_size s.begun.username.len ≤ length out
-    → StepPromise (accept (made_open s rm (response_numbers r))) s out (record { state = st; answer = Done; len = one_size n }) x
+    → StepPromise (accept (made_open s rm (response_numbers r))) s out (record { state = st; answer = Ok tt; len = one_size n }) x
 unfolding made_open response_numbers
 open_made s r rm out st n w x q e p k b l h =
     let z = size1 (one_to r.system s rm) k s.begun.username.len (name_size s.begun.username b l) out in
@@ -94,7 +85,7 @@ open_made s r rm out st n w x q e p k b l h =
 pub two_made : (s : Record) (kg password : List ℕ) (f : RakpMessage2) (code sik out : List ℕ) (st : Record) (w : Written) (x : List ℕ)
     → code ≡ code_three s password f → sik ≡ sik_two s kg password f → st ≡ keyed s f.guid sik
     → WritePromise (message3 (three_of s) code) out w x → three_size ≤ length out
-    → StepPromise (accept (made_two s kg password f)) s out (record { state = st; answer = Done; len = three_size }) x
+    → StepPromise (accept (made_two s kg password f)) s out (record { state = st; answer = Ok tt; len = three_size }) x
 unfolding made_two message3 code_three
 two_made s kg password f code sik out st w x a b e p h =
     let n : length code ≡ code_size = ap length a ∙ mac_length password _ in
@@ -106,25 +97,9 @@ two_made s kg password f code sik out st w x a b e p h =
 -- or the message that declines
 pub declined : (s y : Record) (out : List ℕ) (w : Written) (x : List ℕ) → y ≡ closed
     → WritePromise (declined3 (three_of s)) out w x → three_size ≤ length out
-    → StepPromise (refuse 31 0) s out (record { state = y; answer = Refused Declined; len = 8 }) x
+    → StepPromise (refuse 31 0) s out (record { state = y; answer = Err Declined; len = 8 }) x
 unfolding declined3
 declined s y out w x e p h = record { answer = refl; next = e; len = refl; buffer = (wrote _ out w x p (omega arith)).1 }
-
--- message 2 as it was heard
-pub heard_stop : (R : Res RakpMessage2) (n v : ℕ) (t : Outcome) (f : RakpMessage2) → R ≡ refuse n v → told t ≡ refuse n v
-    → HeardTwo R (record { answer = t; message = f })
-heard_stop R n v t f e g = record { answer = g ∙ sym (ap done e); message = λ h k. absurd (refuse≢accept n v h (sym e ∙ k)) }
-
-pub heard_pass : (R : Res RakpMessage2) (f : RakpMessage2) → R ≡ accept f → HeardTwo R (record { answer = outcome.Done; message = f })
-heard_pass R f e = record { answer = sym (ap done e); message = λ h k. accept_one (sym e ∙ k) }
-  where
-    accept_one : {h : RakpMessage2} → accept f ≡ accept h → f ≡ h
-    accept_one q = cc
-
-pub heard_now : (R : Res RakpMessage2) (r : RakpAnswer2) → HeardTwo R r → r.answer ≡ outcome.Done → R ≡ accept r.message
-heard_now R r p e =
-    let u = done_yes R (sym p.answer ∙ ap told e) in
-    u.1 ∙ ap accept (sym (p.message u.0 u.1))
 
 -- the code's place lies in the message
 pub code_inside : (s : Record) (m : List ℕ) (f : RakpMessage2) → heard_two s m ≡ accept f → f.code.at ≤ length m
@@ -146,14 +121,3 @@ value_inside m f e =
 pub same_four : (s : Record) (m : List ℕ) (a : ℕ) (v : List ℕ) (t : Bool) → v ≡ value_four s
     → t ≡ same (take (length m - a) (drop a m)) v → t ≡ same (drop a m) (value_four s)
 same_four s m a v t g h = h ∙ ap₂ same (to_end (length m) a m (omega arith)) g
-
--- the session of a record
-pub session_no : (s : Record) (k : Keys) (g : Agreed) (z : SubState) → in_step s 4 ≡ false → k ≡ no_keys → g ≡ none_agreed
-    → z ≡ session_with k g → SessionPromise s (record { answer = Refused WrongStep; session = z })
-unfolding session_of
-session_no s k g z e a b f = record { answer = sym (need_no _ _ _ _ e); session = rw (e, f, a, b) }
-
-pub session_yes : (s : Record) (z : SubState) → in_step s 4 ≡ true → z ≡ session_with s.keys s.agreed
-    → SessionPromise s (record { answer = Done; session = z })
-unfolding session_of
-session_yes s z e f = record { answer = sym (pass _ _ _ _ e refl); session = rw (e, f) }

@@ -1,5 +1,6 @@
 -- A name is taken whole or not at all: Begin's order of tests, what a refused Begin leaves, and message 1's length byte and last bytes, of
 -- every record that the steps reach and of the calls themselves.
+use Rattle.std.specs.Prelude.{Ok}
 use Prim.Native.Nat.{ℕ, ◌≤◌, ◌<◌}
 use native.Mathlib.Omega.{arith}
 use mathlib.Core.Bool.{Bool, true, false, not, cond}
@@ -12,8 +13,7 @@ use lib.Seq.{take-length}
 use borrow.Author.Tests.{ne_eqb, eqb-false, lt-leb, leb-false, not-true}
 use Rattle.refusal.specs.Order.{Res, refuse, accept, need, and_then, done}
 use Rattle.refusal.specs.Table.{among}
-use Rattle.refusal.specs.Outcome.{told}
-use Rattle.refusal.specs.declared.Outcome.TheVariants.{Done}
+use Rattle.refusal.specs.Answer.{told}
 use Rattle.refusal.proofs.Order.{refuse≢accept, pass, need_past, need_own, then_need, then_accept, done_need, done_yes, done_no}
 use Rattle.octets.specs.Place.{begun}
 use Rattle.octets.proofs.Place.{begun_none}
@@ -32,8 +32,8 @@ use Rattle.session.specs.Named.{NamesUser}
 use Rattle.session.specs.declared.Asked.{Asked}
 use Rattle.session.specs.declared.Begun.{Begun}
 use Rattle.session.specs.declared.Record.{Record}
-use Rattle.session.proofs.Stages.{Only, Quiet, only_accept, only_need, only_then, either_way}
-use Rattle.session.proofs.Refusals.{ready_begin_quiet, username_quiet}
+use Rattle.session.proofs.Stages.{either_way}
+use Rattle.session.proofs.Refusals.{begin_quiet}
 use Rattle.session.proofs.Accepted.{begin_tells, open_tells}
 use Rattle.session.proofs.Invariant.{reached_sound, reached_holds}
 use Rattle.session.proofs.Heard.{message1-length, one_count, one_rest}
@@ -84,14 +84,14 @@ module _ (asked : Asked) (name : List ℕ) where
   pub four_reaches : (c : FourCall) → Reached asked name c.args.0 → Reached asked name c.answer.state
   four_reaches c r = subst (Reached asked name) (sym c.kept.next) (by_four _ _ r)
 
-  pub message_1_names : (c : OpenCall) → Reached asked name c.args.0 → c.answer.answer ≡ Done → NamesUser (sent (seen_open c)) name
+  pub message_1_names : (c : OpenCall) → Reached asked name c.args.0 → c.answer.answer ≡ Ok tt → NamesUser (sent (seen_open c)) name
   message_1_names c r e =
       let a = done_yes _ (sym c.kept.answer ∙ ap told e) in
       subst (λ (x : List ℕ). NamesUser x name) (sym (made_sent _ a.0 c.args.0 (seen_open c) c.kept a.1))
       (open_names asked name c.args.0 r _ _ _ a.0 (random_sixteen c) a.1)
 
 -- from what Begin was given to message 1
-pub begin_to_message_1 : (b : BeginCall) (c : OpenCall) → c.args.0 ≡ b.answer.state → c.answer.answer ≡ Done
+pub begin_to_message_1 : (b : BeginCall) (c : OpenCall) → c.args.0 ≡ b.answer.state → c.answer.answer ≡ Ok tt
     → NamesUser (sent (seen_open c)) (name_lent b)
 begin_to_message_1 b c e d = message_1_names _ _ c (subst (Reached _ _) (sym e) (begin_reaches b)) d
 
@@ -101,7 +101,7 @@ name_heard one name n = ap₂ take n.count n.rest ∙ take-length name
 
 pub users_apart : (asked asked₂ : Asked) (name name₂ : List ℕ) (c d : OpenCall)
     → Reached asked name c.args.0 → Reached asked₂ name₂ d.args.0
-    → c.answer.answer ≡ Done → d.answer.answer ≡ Done → name_in (sent (seen_open c)) ≡ name_in (sent (seen_open d)) → name ≡ name₂
+    → c.answer.answer ≡ Ok tt → d.answer.answer ≡ Ok tt → name_in (sent (seen_open c)) ≡ name_in (sent (seen_open d)) → name ≡ name₂
 users_apart asked asked₂ name name₂ c d r q e f g =
     sym (name_heard _ name (message_1_names asked name c r e)) ∙ g ∙ name_heard _ name₂ (message_1_names asked₂ name₂ d q f)
 
@@ -153,24 +153,18 @@ module _ (c : BeginCall) where
   )
 
   -- a refused Begin answers a closed record and writes nothing
-  begin_quiet : Only Quiet (begin_of c.args.0 (name_lent c) (length (seen_begin c).lent))
-  unfolding begin_of
-  begin_quiet =
-      only_then Quiet _ _ (ready_begin_quiet _) (λ _.
-      only_then Quiet _ _ (username_quiet _) (λ _. only_need Quiet _ _ _ _ refl (only_accept Quiet _)))
-
   pub begin_refused : (n v : ℕ) → told c.answer.answer ≡ refuse n v
       → (c.answer.state ≡ closed) × (c.answer.len ≡ 0) × ((seen_begin c).left ≡ (seen_begin c).lent)
   begin_refused n v e =
       let f = done_no _ n v (sym c.kept.answer ∙ e) in
-      let w = ap (written closed) f ∙ ap (λ (t : Bool). cond t (declined3 (three_of closed)) []) (begin_quiet n v f) in (
+      let w = ap (written closed) f ∙ ap (λ (t : Bool). cond t (declined3 (three_of closed)) []) (begin_quiet _ _ _ n v f) in (
         c.kept.next ∙ ap (record_after closed) f ∙ either_way (among n keeping) closed,
         c.kept.len ∙ ap length w,
         c.kept.buffer ∙ ap (λ (x : List ℕ). begun x (seen_begin c).lent) w ∙ begun_none (seen_begin c).lent,
       )
 
   -- what an accepted one fixes is the whole name
-  pub begin_whole : c.answer.answer ≡ Done → c.answer.state ≡ begun_with (begun_of c.args.0 (stored (name_lent c)))
+  pub begin_whole : c.answer.answer ≡ Ok tt → c.answer.state ≡ begun_with (begun_of c.args.0 (stored (name_lent c)))
   unfolding made_begin
   begin_whole e =
       let a = done_yes _ (sym c.kept.answer ∙ ap told e) in

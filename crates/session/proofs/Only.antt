@@ -4,7 +4,7 @@ use Prim.Native.Nat.{ℕ}
 use mathlib.Core.List.{List}
 use mathlib.Core.Path.{◌≡◌, sym, ◌∙◌}
 use Rattle.refusal.specs.Order.{Res}
-use Rattle.refusal.proofs.Told.{outcome_one}
+use Rattle.refusal.proofs.Answer.{answer_one, outcome_one}
 use Rattle.session.specs.Steps.{Made}
 use Rattle.session.specs.Promise.{StepPromise}
 use Rattle.session.specs.declared.Record.{Record}
@@ -39,7 +39,4 @@ pub message_4_only : (κs : _) (args : _) (a b : _) (s t : _) → four-reads.Pos
 message_4_only κs args a b s t p q = (step_one _ _ _ a b _ _ p q).0
 
 pub sub_state_only : (κs : _) (args : _) (a b : _) (s t : _) → session-reads.Post κs args a s → session-reads.Post κs args b t → a ≡ b
-sub_state_only κs args a b s t p q =
-    let g = outcome_one a.answer b.answer (p.answer ∙ sym q.answer) in
-    let f = p.session ∙ sym q.session in
-    λ i. record { answer = g i; session = f i }
+sub_state_only κs args a b s t p q = answer_one (λ z. z) (λ _ _ e. e) a b (p.answer ∙ sym q.answer)

@@ -9,19 +9,25 @@ use Rattle.messages.specs.Name.{username_of}
 use Rattle.messages.specs.OpenSession.{open_checked, open_fields, open_response}
 use Rattle.messages.specs.Rakp.{checked, message2, message4}
 use Rattle.messages.specs.Status.{common, number_if, status_number}
-use Rattle.session.specs.Steps.{ready_begin, ready_open, heard_open, ready_two, heard_two, ready_four, heard_four}
+use Rattle.session.specs.Steps.{ready_begin, begin_of, ready_open, heard_open, ready_two, heard_two, ready_four, heard_four}
 use Rattle.session.specs.declared.Asked.{Asked}
 use Rattle.session.specs.declared.Record.{Record}
 use Rattle.session.proofs.Stages.{Only, Quiet, Keeps, Shuts, only_accept, only_need, only_then}
 
 -- Begin
-pub ready_begin_quiet : (asked : Asked) → Only Quiet (ready_begin asked)
+ready_begin_quiet : (asked : Asked) → Only Quiet (ready_begin asked)
 unfolding ready_begin
 ready_begin_quiet asked = only_need Quiet _ _ _ _ refl (only_need Quiet _ _ _ _ refl (only_accept Quiet _))
 
-pub username_quiet : (name : List ℕ) → Only Quiet (username_of name)
+username_quiet : (name : List ℕ) → Only Quiet (username_of name)
 unfolding username_of
 username_quiet name = only_need Quiet _ _ _ _ refl (only_need Quiet _ _ _ _ refl (only_accept Quiet _))
+
+pub begin_quiet : (asked : Asked) (name : List ℕ) (room : ℕ) → Only Quiet (begin_of asked name room)
+unfolding begin_of
+begin_quiet asked name room =
+    only_then Quiet _ _ (ready_begin_quiet asked) (λ _.
+    only_then Quiet _ _ (username_quiet name) (λ _. only_need Quiet _ _ _ _ refl (only_accept Quiet _)))
 
 -- before the message
 pub ready_open_keeps : (s : Record) (room : ℕ) → Only Keeps (ready_open s room)

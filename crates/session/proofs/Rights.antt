@@ -1,13 +1,13 @@
 -- The rights that are asked for are those that Begin was given: the role of every record that the steps reach, of message 1 and of the three
 -- values that are computed over N, and the request's own level byte.
+use Rattle.std.specs.Prelude.{Ok}
 use Prim.Native.Nat.{ℕ, ◌≤◌}
 use native.Mathlib.Omega.{arith}
 use mathlib.Core.List.{List}
 use mathlib.Core.Path.{◌≡◌, sym, ◌∙◌, ap, ap₂, subst}
 use lib.ListN.{length, drop}
 use Rattle.refusal.specs.Order.{accept}
-use Rattle.refusal.specs.Outcome.{told}
-use Rattle.refusal.specs.declared.Outcome.TheVariants.{Done}
+use Rattle.refusal.specs.Answer.{told}
 use Rattle.refusal.proofs.Order.{done_yes}
 use Rattle.sha1_hmac.specs.Hash.{hmac_sha1}
 use Rattle.keys.specs.Chosen.{key_of}
@@ -72,7 +72,7 @@ open_asks asked name s r m rm room M k e =
     let h : 1 ≤ step_number s.step = omega arith in
     ap role_in a.4 ∙ one_role (one_to a.0.system s rm) k ∙ role_held asked name s r h
 
-pub message_1_asks : (asked : Asked) (name : List ℕ) (c : OpenCall) → Reached asked name c.args.0 → c.answer.answer ≡ Done
+pub message_1_asks : (asked : Asked) (name : List ℕ) (c : OpenCall) → Reached asked name c.args.0 → c.answer.answer ≡ Ok tt
     → role_in (sent (seen_open c)) ≡ role_asked asked
 message_1_asks asked name c r e =
     let a = done_yes _ (sym c.kept.answer ∙ ap told e) in
@@ -80,7 +80,7 @@ message_1_asks asked name c r e =
     ∙ open_asks asked name c.args.0 r _ _ _ a.0 (random_sixteen c) a.1
 
 -- from what Begin was given to message 1
-pub begin_to_role : (b : BeginCall) (c : OpenCall) → c.args.0 ≡ b.answer.state → c.answer.answer ≡ Done
+pub begin_to_role : (b : BeginCall) (c : OpenCall) → c.args.0 ≡ b.answer.state → c.answer.answer ≡ Ok tt
     → role_in (sent (seen_open c)) ≡ role_asked b.args.0
 begin_to_role b c e d = message_1_asks _ _ c (subst (Reached _ _) (sym e) (begin_reaches b)) d
 
@@ -102,7 +102,7 @@ two_covers asked name s r most kg password m room M e =
           ∙ ap keys_of (ap (sik_two s kg password) g ∙ sik_held asked name s r h password (fields2 m) kg);
     }
 
-pub message_2_covers : (asked : Asked) (name : List ℕ) (c : TwoCall) → Reached asked name c.args.0 → c.answer.answer ≡ Done
+pub message_2_covers : (asked : Asked) (name : List ℕ) (c : TwoCall) → Reached asked name c.args.0 → c.answer.answer ≡ Ok tt
     → Covers asked name c.args.0 c.args.1.0.now c.args.1.1.0.now c.args.1.1.1.0.now (sent (seen_two c)) c.answer.state
 message_2_covers asked name c r e =
     let a = done_yes _ (sym c.kept.answer ∙ ap told e) in
@@ -111,7 +111,7 @@ message_2_covers asked name c r e =
     rw (t, n) (two_covers asked name c.args.0 r _ _ _ _ _ a.0 a.1)
 
 -- the request's own byte is the level, or 0 where none was asked for, however the user is looked up
-pub request_asks : (c : BeginCall) → c.answer.answer ≡ Done → level_in (sent (seen_begin c)) ≡ level_byte c.args.0.level
+pub request_asks : (c : BeginCall) → c.answer.answer ≡ Ok tt → level_in (sent (seen_begin c)) ≡ level_byte c.args.0.level
 unfolding made_begin
 request_asks c e =
     let a = done_yes _ (sym c.kept.answer ∙ ap told e) in

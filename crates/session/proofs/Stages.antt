@@ -1,5 +1,7 @@
 -- Laws that serve every step: what a refusal of its first stage, of its second, and an acceptance make of the promise.
 use Prim.Native.Nat.{ℕ}
+use Rattle.std.specs.Prelude.{Result, Ok, Err}
+use Rattle.refusal.specs.Answer.{told_as, told}
 use mathlib.Core.Bool.{Bool, true, false, cond}
 use mathlib.Core.List.{List}
 use mathlib.Core.Path.{◌≡◌, refl, sym, ◌∙◌}
@@ -17,7 +19,6 @@ use Rattle.session.specs.Parts.{refused_at}
 use Rattle.session.specs.Promise.{StepPromise, keeping}
 use Rattle.session.specs.declared.Record.{Record}
 use Rattle.session.specs.declared.Stepped.{Stepped}
-use Rattle.refusal.specs.declared.Outcome.TheVariants.{Done}
 
 -- every refusal of T has the property P
 abbrev pub Only : {A : Type 0} → (ℕ → Type 0) → Res A → Type 0
@@ -67,6 +68,11 @@ pub begin_stop : (R : Res Made) (out : List ℕ) (r : Refusal) (y : Record) (z :
 begin_stop R out r y z e k g f =
     rw (e, f, g) (record { answer = refl; next = sym (either_way (among (number_of r) keeping) closed); len = rw k; buffer = rw k (sym (begun_none out)) })
 
+-- a refusal is told alike of an answer with a value and of one without
+pub told_refused : {A B : Type 0} (f : A → B) (r : Result A Refusal) (n v : ℕ) → told_as f r ≡ refuse n v → told r ≡ refuse n v
+told_refused f (Ok a) n v e = absurd (refuse≢accept n v (f a) (sym e))
+told_refused f (Err q) n v e = refuse_as (number_of q) (value_of q) n v e
+
 -- two stages one behind the other
 module _ {A B : Type 0} (T : Res A) (U : Res B) (f : B → Res Made) where
   pub second_stop : (a : A) (n v : ℕ) → T ≡ accept a → U ≡ refuse n v → and_then T (λ _. and_then U f) ≡ refuse n v
@@ -80,5 +86,5 @@ promise_as R Q s out r x e p = rw e p
 
 -- a step that made something
 pub step_made : (M : Made) (s : Record) (out : List ℕ) (st : Record) (n : ℕ) (x : List ℕ) → st ≡ M.next → n ≡ length M.bytes
-    → x ≡ begun M.bytes out → StepPromise (accept M) s out (record { state = st; answer = Done; len = n }) x
+    → x ≡ begun M.bytes out → StepPromise (accept M) s out (record { state = st; answer = Ok tt; len = n }) x
 step_made M s out st n x e f g = record { answer = refl; next = e; len = f; buffer = g }

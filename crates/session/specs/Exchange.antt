@@ -2,23 +2,23 @@
 -- `begin`, `open_response`, `message_2`, `message_4` and `sub_state`. proofs/Calls proves it of every row of calls that keep their
 -- promises, where each call is given the record that the one before it answered, and what the system sends upon the bytes that the
 -- calls before it wrote into their outputs.
-use Rattle.std.specs.Prelude.{ℕ, ◌≤◌, true, List, ◌≡◌, length, take}
+use Rattle.std.specs.Prelude.{Result, Ok, ℕ, ◌≤◌, true, List, ◌≡◌, length, take}
 use Rattle.refusal.specs.Order.{refuse}
-use Rattle.refusal.specs.Outcome.{told}
-use Rattle.refusal.specs.declared.Outcome.TheVariants.{Done}
+use Rattle.refusal.specs.Answer.{told}
+use Rattle.refusal.specs.declared.Refusal.{Refusal}
 use Rattle.octets.specs.Place.{begun}
 use Rattle.messages.specs.Name.{allowed, longest_name}
 use Rattle.messages.specs.OpenSession.{level_byte}
 use Rattle.session.specs.Constants.{longest_password, request_size, one_size, three_size}
 use Rattle.session.specs.Role.{who_asked}
-use Rattle.session.specs.Record.{closed, no_keys, none_agreed}
+use Rattle.session.specs.Record.{closed}
 use Rattle.session.specs.Steps.{level_allowed}
 use Rattle.session.specs.Promise.{session_with}
 use Rattle.session.specs.System.{System, Regular, level_in, sidm_in, rm_in, who_in, keys_in, agreed_in, TakesRequest, TakesOne, TakesThree}
 use Rattle.session.specs.declared.Asked.{Asked}
 use Rattle.session.specs.declared.Record.{Record}
 use Rattle.session.specs.declared.Stepped.{Stepped}
-use Rattle.session.specs.declared.state.Established.{Established}
+use Rattle.suite.specs.declared.SubState.{SubState}
 use Rattle.session.specs.declared.Step.TheVariants.{Open}
 
 -- a call that writes: its output as it was lent, its answer, its output as it was left
@@ -46,7 +46,7 @@ pub record Suits (y : System) (asked : Asked) (name : List ℕ) (request one thr
 
 -- a call that was done: it wrote all the bytes that it tells, and those past them are as they were lent
 pub record Wrote (c : Seen) : Type 0 where
-  pub done : c.answer.answer ≡ Done
+  pub done : c.answer.answer ≡ Ok tt
   pub len : length (sent c) ≡ c.answer.len
   pub rest : c.left ≡ begun (sent c) c.lent
 
@@ -68,21 +68,19 @@ pub record Opened (y : System) (one : List ℕ) (s : Record) : Type 0 where
   pub keys : s.keys ≡ keys_in y one
 
 -- every call is done, the system takes what was written, the record opens, and that is the session that is handed out
-pub record Exchange (y : System) (asked : Asked) (name rm : List ℕ) (request one three : Seen) (four : Stepped) (e : Established) : Type 0 where
+pub record Exchange (y : System) (asked : Asked) (name rm : List ℕ) (request one three : Seen) (four : Stepped) (e : Result SubState Refusal) : Type 0 where
   pub begins : Wrote request
   pub accepts_response : Wrote one
   pub accepts_two : Wrote three
   pub hears : Hears y asked name rm (sent request) (sent one) (sent three)
-  pub accepts_four : four.answer ≡ Done
+  pub accepts_four : four.answer ≡ Ok tt
   pub writes_nothing : four.len ≡ 0
   pub opens : Opened y (sent one) four.state
-  pub establishes : e.answer ≡ Done
-  pub session : e.session ≡ session_with (keys_in y (sent one)) (agreed_in y)
+  pub establishes : e ≡ Ok (session_with (keys_in y (sent one)) (agreed_in y))
 
--- with any other value in message 4's place: 32, the record closes, and 33 with no keys is what is handed out
-pub record Refuses (four : Stepped) (e : Established) : Type 0 where
+-- with any other value in message 4's place: 32, the record closes, and no session is handed out but 33
+pub record Refuses (four : Stepped) (e : Result SubState Refusal) : Type 0 where
   pub refuses : told four.answer ≡ refuse 32 0
   pub writes_nothing : four.len ≡ 0
   pub closes : four.state ≡ closed
-  pub refuses_session : told e.answer ≡ refuse 33 0
-  pub session : e.session ≡ session_with no_keys none_agreed
+  pub refuses_session : told e ≡ refuse 33 0

@@ -1,19 +1,19 @@
 -- What a step promises (docs/RULES.md, 1.3, 7.4, 7.6 and 7.8): its answer, the record, how many bytes it wrote, and every byte of the
 -- lent output.
-use Rattle.std.specs.Prelude.{ℕ, Bool, true, false, cond, List, [], ◌∷◌, ◌≡◌, eqb, length}
+use Rattle.std.specs.Prelude.{Result, ℕ, cond, List, [], ◌∷◌, ◌≡◌, eqb, length}
 use Rattle.refusal.specs.Order.{Res, refuse, accept, need, done}
-use Rattle.refusal.specs.Outcome.{told}
+use Rattle.refusal.specs.Answer.{told, told_as}
 use Rattle.refusal.specs.Table.{among}
+use Rattle.refusal.specs.declared.Refusal.{Refusal}
 use Rattle.octets.specs.Place.{begun}
 use Rattle.suite.specs.declared.SubState.{SubState}
 use Rattle.keys.specs.declared.keys.Keys.{Keys}
 use Rattle.messages.specs.Rakp.{declined3}
-use Rattle.session.specs.Record.{closed, in_step, no_keys, none_agreed}
+use Rattle.session.specs.Record.{closed, in_step}
 use Rattle.session.specs.Steps.{Made, three_of}
 use Rattle.session.specs.declared.Agreed.{Agreed}
 use Rattle.session.specs.declared.Record.{Record}
 use Rattle.session.specs.declared.Stepped.{Stepped}
-use Rattle.session.specs.declared.state.Established.{Established}
 
 -- the refusals that leave the record as it was; every other closes it
 abbrev pub keeping : List ℕ
@@ -38,11 +38,6 @@ pub record StepPromise (R : Res Made) (s : Record) (out : List ℕ) (r : Stepped
 unfoldable pub session_with : Keys → Agreed → SubState
 session_with keys agreed = record { keys = keys; confidentiality = agreed.confidentiality; integrity = agreed.integrity }
 
--- the session of an open record; a session of no keys and no algorithms beside a refusal
-unfoldable pub session_of : Record → Bool → SubState
-session_of s true = session_with s.keys s.agreed
-session_of s false = session_with no_keys none_agreed
-
-pub record SessionPromise (s : Record) (r : Established) : Type 0 where
-  pub answer : told r.answer ≡ need (in_step s 4) 33 0 (accept tt)
-  pub session : r.session ≡ session_of s (in_step s 4)
+-- the session of an open record; any other is refused
+pub record SessionPromise (s : Record) (r : Result SubState Refusal) : Type 0 where
+  pub answer : told_as (λ z. z) r ≡ need (in_step s 4) 33 0 (accept (session_with s.keys s.agreed))

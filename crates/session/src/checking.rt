@@ -1,6 +1,6 @@
 // Message 4, which opens the session.
 ghost use Rattle.std.specs.Prelude.{◌≡◌, []};
-ghost use Rattle.refusal.specs.Outcome.{told};
+ghost use Rattle.refusal.specs.Answer.{told};
 ghost use Rattle.refusal.specs.Order.{done};
 ghost use Rattle.session.specs.Record.{opened};
 ghost use Rattle.session.specs.Steps.{heard_four, value_four, four_of};
@@ -8,7 +8,7 @@ ghost use Rattle.session.specs.Promise.{StepPromise};
 
 use crate::{Record, Step, Stepped, TAG_3, state};
 use messages::rakp_4::{RakpAnswer4, RakpMessage4};
-use refusal::{Outcome, Refusal};
+use refusal::Refusal;
 
 // How many bytes message 4's value has.
 const VALUE_LEN: usize = 12;
@@ -28,43 +28,33 @@ fn compute_value(state: Record) -> [u8; VALUE_LEN]
 fn mark_open(state: Record) -> Record
     ensures { result ≡ opened state }
 {
-    let begun = state.begun;
-    let rm = state.rm;
-    let guid = state.guid;
-    let keys = state.keys;
-    let agreed = state.agreed;
     Record {
         step: Step::Open,
-        begun,
-        system: state.system,
-        rm,
-        guid,
-        keys,
-        agreed,
+        ..state
     }
 }
 
 // Message 4 by its own tests, then by tag and id, then by the value, over all of its bytes.
-fn check_message(state: Record, message: &[u8]) -> Outcome
+fn check_message(state: Record, message: &[u8]) -> Result<(), Refusal>
     ensures { told result ≡ done (heard_four state message.now) }
 {
     match RakpMessage4::from_data(message) {
-        RakpAnswer4::Refused(r) => Outcome::Refused(r),
+        RakpAnswer4::Refused(r) => Err(r),
         RakpAnswer4::Message(f) => {
             if f.tag != TAG_3 {
-                return Outcome::Refused(Refusal::MessageTagMismatch);
+                return Err(Refusal::MessageTagMismatch);
             }
             let begun = state.begun;
             if f.id != begun.console {
-                return Outcome::Refused(Refusal::SessionIdMismatch);
+                return Err(Refusal::SessionIdMismatch);
             }
             let v = compute_value(state);
             let p = f.value;
             let at = p.at;
             if !octets::same(&message[at..], &v) {
-                return Outcome::Refused(Refusal::InvalidIntegrityCheckValue);
+                return Err(Refusal::InvalidIntegrityCheckValue);
             }
-            Outcome::Done
+            Ok(())
         }
     }
 }
@@ -73,14 +63,14 @@ fn check_message(state: Record, message: &[u8]) -> Outcome
 pub fn message_4(state: Record, message: &[u8]) -> Stepped
     ensures { StepPromise (four_of state message.now) state [] result [] }
 {
-    if !state::is_in_step(state, 3) {
+    if !state::is_in_step(state, Step::Message4) {
         return state::refuse(state, Refusal::WrongStep);
     }
     match check_message(state, message) {
-        Outcome::Refused(r) => state::refuse(state::make_closed(), r),
-        Outcome::Done => Stepped {
+        Err(r) => state::refuse(state::make_closed(), r),
+        Ok(()) => Stepped {
             state: mark_open(state),
-            answer: Outcome::Done,
+            answer: Ok(()),
             len: 0,
         },
     }

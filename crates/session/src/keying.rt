@@ -1,13 +1,12 @@
 // Message 2, answered by message 3 or by the message that declines.
 ghost use Rattle.std.specs.Prelude.{◌≡◌, ◌≤◌, length, drop};
 ghost use Rattle.refusal.specs.Order.{accept, refuse};
-ghost use Rattle.refusal.specs.Outcome.{told};
+ghost use Rattle.refusal.specs.Answer.{told, told_as};
 ghost use Rattle.octets.specs.Equal.{same};
 ghost use Rattle.running.specs.Promise.{limit};
 ghost use Rattle.session.specs.Constants.{legal_kg, longest_password, three_size};
 ghost use Rattle.session.specs.Record.{keyed};
 ghost use Rattle.session.specs.Steps.{ready_two, heard_two, code_two, sik_two, code_three, made_two, proved_two, two_of};
-ghost use Rattle.session.specs.Parts.{HeardTwo};
 ghost use Rattle.session.specs.Promise.{StepPromise};
 
 use crate::{Record, Step, Stepped, TAG_1, TAG_3, state};
@@ -41,61 +40,46 @@ fn is_legal_kg(n: usize) -> bool
 }
 
 // What is tested before the message is looked at.
-fn check_call(state: Record, kg: &[u8], password: &[u8], room: usize) -> Outcome
+fn check_call(state: Record, kg: &[u8], password: &[u8], room: usize) -> Result<(), Refusal>
     ensures { told result ≡ ready_two longest_password state kg.now password.now room }
 {
-    if !state::is_in_step(state, 2) {
-        return Outcome::Refused(Refusal::WrongStep);
+    if !state::is_in_step(state, Step::Message2) {
+        return Err(Refusal::WrongStep);
     }
     if !is_legal_kg(kg.len()) {
-        return Outcome::Refused(Refusal::InvalidKgLen);
+        return Err(Refusal::InvalidKgLen);
     }
     if LONGEST_PASSWORD < password.len() {
-        return Outcome::Refused(Refusal::PasswordTooLong);
+        return Err(Refusal::PasswordTooLong);
     }
     if room < MESSAGE_3_LEN {
-        return Outcome::Refused(Refusal::OutputTooShort);
+        return Err(Refusal::OutputTooShort);
     }
-    Outcome::Done
+    Ok(())
 }
 
 // Message 2 by its own tests, then by tag, id and the code's length.
-fn read_message(state: Record, message: &[u8]) -> RakpAnswer2
-    ensures { HeardTwo (heard_two state message.now) result }
+fn read_message(state: Record, message: &[u8]) -> Result<RakpMessage2, Refusal>
+    ensures { told_as (λ f. f) result ≡ heard_two state message.now }
 {
     let got = RakpMessage2::from_data(message);
     let answer = got.answer;
     let f = got.message;
     match answer {
-        Outcome::Refused(r) => RakpAnswer2 {
-            answer: Outcome::Refused(r),
-            message: f,
-        },
+        Outcome::Refused(r) => Err(r),
         Outcome::Done => {
             if f.tag != TAG_1 {
-                return RakpAnswer2 {
-                    answer: Outcome::Refused(Refusal::MessageTagMismatch),
-                    message: f,
-                };
+                return Err(Refusal::MessageTagMismatch);
             }
             let begun = state.begun;
             if f.console != begun.console {
-                return RakpAnswer2 {
-                    answer: Outcome::Refused(Refusal::SessionIdMismatch),
-                    message: f,
-                };
+                return Err(Refusal::SessionIdMismatch);
             }
             let code = f.code;
             if code.len != CODE_LEN {
-                return RakpAnswer2 {
-                    answer: Outcome::Refused(Refusal::InvalidKeyExchangeAuthCodeLen),
-                    message: f,
-                };
+                return Err(Refusal::InvalidKeyExchangeAuthCodeLen);
             }
-            RakpAnswer2 {
-                answer: Outcome::Done,
-                message: f,
-            }
+            Ok(f)
         }
     }
 }
@@ -159,17 +143,11 @@ fn compute_code_3(state: Record, password: &[u8], f: RakpMessage2) -> [u8; CODE_
 fn add_keys(state: Record, guid: [u8; 16], sik: [u8; 20]) -> Record
     ensures { result ≡ keyed state guid sik }
 {
-    let begun = state.begun;
-    let rm = state.rm;
-    let agreed = state.agreed;
     Record {
         step: Step::Message4,
-        begun,
-        system: state.system,
-        rm,
         guid,
         keys: Keys::from_sik(sik),
-        agreed,
+        ..state
     }
 }
 
@@ -195,7 +173,7 @@ fn write_message_3<'a>(
     message.write(&code, out);
     Stepped {
         state: add_keys(state, guid, sik),
-        answer: Outcome::Done,
+        answer: Ok(()),
         len: MESSAGE_3_LEN,
     }
 }
@@ -212,7 +190,7 @@ fn decline(state: Record, out: &mut [u8]) -> Stepped
     message.decline(out);
     Stepped {
         state: state::make_closed(),
-        answer: Outcome::Refused(Refusal::Declined),
+        answer: Err(Refusal::Declined),
         len: DECLINED_LEN,
     }
 }
@@ -249,16 +227,11 @@ pub fn message_2<'a>(
         (two_of longest_password state kg.now password.now message.now (length out.old))
         state out.old result out.new }
 {
-    match check_call(state, kg, password, out.len()) {
-        Outcome::Refused(r) => state::refuse(state, r),
-        Outcome::Done => {
-            let got = read_message(state, message);
-            let answer = got.answer;
-            let f = got.message;
-            match answer {
-                Outcome::Refused(r) => state::refuse(state::make_closed(), r),
-                Outcome::Done => answer_message(state, kg, password, message, f, out),
-            }
-        }
+    if let Err(r) = check_call(state, kg, password, out.len()) {
+        return state::refuse(state, r);
+    }
+    match read_message(state, message) {
+        Err(r) => state::refuse(state::make_closed(), r),
+        Ok(f) => answer_message(state, kg, password, message, f, out),
     }
 }

@@ -4,7 +4,7 @@
 use keys::Keys;
 use messages::open_session::RequestedPrivilege;
 use messages::rakp_1::Username;
-use refusal::Outcome;
+use refusal::Refusal;
 use suite::{Confidentiality, Integrity};
 
 mod checking;
@@ -27,7 +27,7 @@ pub(crate) const TAG_1: u8 = 0x0d;
 pub(crate) const TAG_3: u8 = 0x0a;
 
 // Where an exchange stands: what it waits for next.
-#[derive(Clone, Copy)]
+#[derive(Clone, Copy, PartialEq, Eq)]
 pub enum Step {
     Closed,
     OpenResponse,
@@ -83,6 +83,6 @@ pub struct Record {
 #[derive(Clone, Copy)]
 pub struct Stepped {
     pub state: Record,
-    pub answer: Outcome,
+    pub answer: Result<(), Refusal>,
     pub len: usize,
 }

@@ -1,7 +1,7 @@
 // Begin: the open session request.
 ghost use Rattle.std.specs.Prelude.{true, ◌≡◌, ◌≤◌, length};
 ghost use Rattle.refusal.specs.Order.{accept};
-ghost use Rattle.refusal.specs.Outcome.{told};
+ghost use Rattle.refusal.specs.Answer.{told, told_as};
 ghost use Rattle.session.specs.Constants.{request_size};
 ghost use Rattle.session.specs.Record.{closed, begun_of, begun_with};
 ghost use Rattle.session.specs.Role.{level_of, role_of};
@@ -24,20 +24,18 @@ const ADMINISTRATOR: u8 = 0x04;
 const NAME_ONLY: u8 = 0x10;
 
 // The tests on the id and the level.
-fn check_asked(asked: Asked) -> Outcome
+fn check_asked(asked: Asked) -> Result<(), Refusal>
     ensures { told result ≡ ready_begin asked }
 {
     if asked.console == 0 {
-        return Outcome::Refused(Refusal::ZeroRemoteConsoleSessionId);
+        return Err(Refusal::ZeroRemoteConsoleSessionId);
     }
-    let level = asked.level;
-    let RequestedPrivilege::Level(b) = level else {
-        return Outcome::Done;
-    };
-    if messages::auth::is_level(b) {
-        return Outcome::Done;
+    match asked.level {
+        RequestedPrivilege::Level(b) if !messages::auth::is_level(b) => {
+            Err(Refusal::InvalidPrivilegeLevel(b))
+        }
+        _ => Ok(()),
     }
-    Outcome::Refused(Refusal::InvalidPrivilegeLevel(b))
 }
 
 // The level that the role asks for.
@@ -67,11 +65,9 @@ fn fix_begun(asked: Asked, username: Username) -> Begun
     requires { level_allowed asked.level ≡ true }
     ensures { result ≡ begun_of asked username }
 {
-    let level = asked.level;
-    let lookup = asked.lookup;
     Begun {
         console: asked.console,
-        role: make_role(level, lookup),
+        role: make_role(asked.level, asked.lookup),
         username,
     }
 }
@@ -83,11 +79,7 @@ fn start_record(begun: Begun) -> Record
     Record {
         step: Step::OpenResponse,
         begun,
-        system: 0,
-        rm: [0u8; 16],
-        guid: [0u8; 16],
-        keys: state::zero_keys(),
-        agreed: state::agree_none(),
+        ..state::make_closed()
     }
 }
 
@@ -97,10 +89,9 @@ fn write_request(asked: Asked, username: Username, out: &mut [u8]) -> Stepped
     ensures { StepPromise (accept (made_begin asked username)) closed out.old result out.new }
 {
     let begun = fix_begun(asked, username);
-    let level = asked.level;
     let request = OpenSessionRequest {
         tag: OPEN_TAG,
-        level,
+        level: asked.level,
         console: asked.console,
         authentication: AuthenticationAlgorithm::RakpHmacSha1,
         integrity: IntegrityAlgorithm::HmacSha1_96,
@@ -109,8 +100,26 @@ fn write_request(asked: Asked, username: Username, out: &mut [u8]) -> Stepped
     request.write_data(out);
     Stepped {
         state: start_record(begun),
-        answer: Outcome::Done,
+        answer: Ok(()),
         len: REQUEST_LEN,
+    }
+}
+
+// What is tested before anything is written: the id and the level, then the name, then the room. The name that passed.
+fn check_call(asked: Asked, name: &[u8], room: usize) -> Result<Username, Refusal>
+    ensures { told_as (made_begin asked) result ≡ begin_of asked name.now room }
+{
+    check_asked(asked)?;
+    let named = Username::new(name);
+    let answer = named.answer;
+    match answer {
+        Outcome::Refused(r) => Err(r),
+        Outcome::Done => {
+            if room < REQUEST_LEN {
+                return Err(Refusal::OutputTooShort);
+            }
+            Ok(named.username)
+        }
     }
 }
 
@@ -119,21 +128,8 @@ pub fn begin(asked: Asked, name: &[u8], out: &mut [u8]) -> Stepped
     ensures { StepPromise (begin_of asked name.now (length out.old))
         closed out.old result out.new }
 {
-    match check_asked(asked) {
-        Outcome::Refused(r) => state::refuse(state::make_closed(), r),
-        Outcome::Done => {
-            let named = Username::new(name);
-            let answer = named.answer;
-            match answer {
-                Outcome::Refused(r) => state::refuse(state::make_closed(), r),
-                Outcome::Done => {
-                    if out.len() < REQUEST_LEN {
-                        return state::refuse(state::make_closed(), Refusal::OutputTooShort);
-                    }
-                    let username = named.username;
-                    write_request(asked, username, out)
-                }
-            }
-        }
+    match check_call(asked, name, out.len()) {
+        Err(r) => state::refuse(state::make_closed(), r),
+        Ok(username) => write_request(asked, username, out),
     }
 }

@@ -1,7 +1,7 @@
 // The open response, answered by message 1.
 ghost use Rattle.std.specs.Prelude.{◌≡◌, ◌≤◌, eqb, length};
 ghost use Rattle.refusal.specs.Order.{accept};
-ghost use Rattle.refusal.specs.Outcome.{told};
+ghost use Rattle.refusal.specs.Answer.{told};
 ghost use Rattle.messages.specs.Answers.{told_open};
 ghost use Rattle.messages.specs.OpenSession.{response_numbers};
 ghost use Rattle.session.specs.Constants.{one_size};
@@ -12,25 +12,25 @@ ghost use Rattle.session.specs.Promise.{StepPromise};
 use crate::{Agreed, OPEN_TAG, Record, Step, Stepped, TAG_1, state};
 use messages::open_session::{OpenSessionAnswer, OpenSessionResponse};
 use messages::rakp_1::{RakpMessage1, Username};
-use refusal::{Outcome, Refusal};
+use refusal::Refusal;
 use suite::{Confidentiality, Integrity};
 
 // How many bytes message 1 has before the name.
 const UP_TO_NAME: usize = 28;
 
 // What is tested before the message is looked at.
-fn check_call(state: Record, room: usize) -> Outcome
+fn check_call(state: Record, room: usize) -> Result<(), Refusal>
     ensures { told result ≡ ready_open state room }
 {
-    if !state::is_in_step(state, 1) {
-        return Outcome::Refused(Refusal::WrongStep);
+    if !state::is_in_step(state, Step::OpenResponse) {
+        return Err(Refusal::WrongStep);
     }
     let begun = state.begun;
     let u = begun.username;
     if room < UP_TO_NAME + u.len {
-        return Outcome::Refused(Refusal::OutputTooShort);
+        return Err(Refusal::OutputTooShort);
     }
-    Outcome::Done
+    Ok(())
 }
 
 // Whether the algorithms are among those that this layer has.
@@ -106,17 +106,12 @@ fn agree(r: OpenSessionResponse) -> Agreed
 fn add_response(state: Record, r: OpenSessionResponse, rm: [u8; 16]) -> Record
     ensures { result ≡ answered state (response_numbers r) rm }
 {
-    let begun = state.begun;
-    let guid = state.guid;
-    let keys = state.keys;
     Record {
         step: Step::Message2,
-        begun,
         system: r.system,
         rm,
-        guid,
-        keys,
         agreed: agree(r),
+        ..state
     }
 }
 
@@ -145,7 +140,7 @@ fn write_message_1(state: Record, r: OpenSessionResponse, rm: [u8; 16], out: &mu
     message.write(out);
     Stepped {
         state: add_response(state, r, rm),
-        answer: Outcome::Done,
+        answer: Ok(()),
         len: UP_TO_NAME + n,
     }
 }
@@ -154,11 +149,11 @@ fn write_message_1(state: Record, r: OpenSessionResponse, rm: [u8; 16], out: &mu
 pub fn open_response(state: Record, message: &[u8], rm: [u8; 16], out: &mut [u8]) -> Stepped
     ensures { StepPromise (open_of state message.now rm (length out.old)) state out.old result out.new }
 {
-    match check_call(state, out.len()) {
-        Outcome::Refused(r) => state::refuse(state, r),
-        Outcome::Done => match read_response(state, message) {
-            OpenSessionAnswer::Refused(r) => state::refuse(state::make_closed(), r),
-            OpenSessionAnswer::Response(r) => write_message_1(state, r, rm, out),
-        },
+    if let Err(r) = check_call(state, out.len()) {
+        return state::refuse(state, r);
+    }
+    match read_response(state, message) {
+        OpenSessionAnswer::Refused(r) => state::refuse(state::make_closed(), r),
+        OpenSessionAnswer::Response(r) => write_message_1(state, r, rm, out),
     }
 }

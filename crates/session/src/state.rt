@@ -1,43 +1,24 @@
 // Records: a closed one, in which step one is, and the session that an open one becomes.
 ghost use Rattle.std.specs.Prelude.{◌≡◌};
 ghost use Rattle.session.specs.Record.{step_number, in_step, no_keys, none_agreed, closed};
-ghost use Rattle.session.specs.Promise.{SessionPromise, session_with};
+ghost use Rattle.session.specs.Promise.{SessionPromise};
 ghost use Rattle.session.specs.Parts.{refused_at};
 
 use crate::{Agreed, Begun, Record, Step, Stepped};
 use keys::Keys;
 use messages::rakp_1::Username;
-use refusal::{Outcome, Refusal};
+use refusal::Refusal;
 use suite::{Confidentiality, Integrity, SubState};
 
-// The number of each step, 0 where none is waited for.
-fn number_step(s: Step) -> u8
-    ensures { result ≡ step_number s }
-{
-    match s {
-        Step::Closed => 0,
-        Step::OpenResponse => 1,
-        Step::Message2 => 2,
-        Step::Message4 => 3,
-        Step::Open => 4,
-    }
-}
-
 // Whether a record is in this step; one whose name is longer than its sixteen bytes is in none.
-pub(crate) fn is_in_step(state: Record, k: u8) -> bool
-    ensures { result ≡ in_step state k }
+pub(crate) fn is_in_step(state: Record, step: Step) -> bool
+    ensures { result ≡ in_step state (step_number step) }
 {
-    let s = state.step;
-    if number_step(s) != k {
-        return false;
-    }
-    let begun = state.begun;
-    let u = begun.username;
-    u.len <= 16
+    state.step == step && state.begun.username.len <= 16
 }
 
 // No keys, before message 2.
-pub(crate) fn zero_keys() -> Keys
+fn zero_keys() -> Keys
     ensures { result ≡ no_keys }
 {
     Keys {
@@ -48,7 +29,7 @@ pub(crate) fn zero_keys() -> Keys
 }
 
 // No algorithm, before the open response.
-pub(crate) fn agree_none() -> Agreed
+fn agree_none() -> Agreed
     ensures { result ≡ none_agreed }
 {
     Agreed {
@@ -85,45 +66,22 @@ pub(crate) fn refuse(state: Record, r: Refusal) -> Stepped
 {
     Stepped {
         state,
-        answer: Outcome::Refused(r),
+        answer: Err(r),
         len: 0,
     }
 }
 
-// The session that frames are read and written with, and whether there is one.
-#[derive(Clone, Copy)]
-pub struct Established {
-    pub answer: Outcome,
-    pub session: SubState,
-}
-
-// The session under keys and with the algorithms agreed.
-fn make_session(keys: Keys, agreed: Agreed) -> SubState
-    ensures { result ≡ session_with keys agreed }
-{
-    let confidentiality = agreed.confidentiality;
-    let integrity = agreed.integrity;
-    SubState {
-        keys,
-        confidentiality,
-        integrity,
-    }
-}
-
-// What an open record becomes; any other is refused.
-pub fn sub_state(state: Record) -> Established
+// The session that an open record becomes, which frames are read and written with; any other record is refused.
+pub fn sub_state(state: Record) -> Result<SubState, Refusal>
     ensures { SessionPromise state result }
 {
-    if !is_in_step(state, 4) {
-        return Established {
-            answer: Outcome::Refused(Refusal::WrongStep),
-            session: make_session(zero_keys(), agree_none()),
-        };
+    if !is_in_step(state, Step::Open) {
+        return Err(Refusal::WrongStep);
     }
-    let keys = state.keys;
     let agreed = state.agreed;
-    Established {
-        answer: Outcome::Done,
-        session: make_session(keys, agreed),
-    }
+    Ok(SubState {
+        keys: state.keys,
+        confidentiality: agreed.confidentiality,
+        integrity: agreed.integrity,
+    })
 }

@@ -4,7 +4,6 @@ use lib.ListN.{length}
 use Rattle.messages.specs.Answers.{told_open}
 use mathlib.Core.Path.{sym, ◌∙◌, ap}
 use Rattle.refusal.proofs.Order.{then_refuse}
-use Rattle.messages.proofs.Reading.{test_passed, test_refused}
 use Rattle.session.proofs.Chains.{open_known}
 use Rattle.session.proofs.Refusals.{ready_open_keeps, heard_open_shuts}
 use Rattle.session.proofs.Stages.{kept, shut, second_stop, second_go, promise_as}
@@ -13,35 +12,27 @@ use Rattle.session.proofs.response.open_response.Goals as goal
 pub write_message_1-requires : goal.write_message_1-requires
 write_message_1-requires c =
     let a = c.args in
-    let call = c.check_call.ensures in
-    let t = test_passed _ _ call c.in-Done.is in
-    let k = open_known a.state (length a.out.now) t in
+    let k = open_known a.state (length a.out.now) (sym c.in_default.ensures) in
     (k.1, k.0)
+
+pub returns-in-Err : goal.returns-in-Err
+unfolding open_of
+returns-in-Err c =
+    let a = c.args in
+    let e = sym c.in-Err.ensures in
+    kept _ a.state a.out.now c.in-Err.r _ (then_refuse _ _ _ _ e) (ready_open_keeps a.state _ _ _ e) c.refuse.ensures
 
 pub returns-in-Refused : goal.returns-in-Refused
 unfolding open_of
 returns-in-Refused c =
     let a = c.args in
-    let e = test_refused _ _ c.in-Refused.r c.check_call.ensures c.in-Refused.is in
-    let k = ready_open_keeps a.state _ _ _ e in
-    kept _ a.state a.out.now c.in-Refused.r _ (then_refuse _ _ _ _ e) k c.refuse.ensures
-
-pub returns-in-Refused-read_response : goal.returns-in-Refused-read_response
-unfolding open_of
-returns-in-Refused-read_response c =
-    let a = c.args in
-    let call = c.check_call.ensures in
-    let t = test_passed _ _ call c.in-Done.is in
-    let u = sym c.read_response.ensures ∙ ap told_open c.in-Refused-read_response.is in
+    let u = sym c.read_response.ensures ∙ ap told_open c.in-Refused.is in
     let k = heard_open_shuts a.state a.message.now _ _ u in
-    shut _ a.state a.out.now c.in-Refused-read_response.r _ _ (second_stop _ _ _ tt _ _ t u) k c.make_closed.ensures c.refuse-in-Refused-read_response.ensures
+    shut _ a.state a.out.now c.in-Refused.r _ _ (second_stop _ _ _ tt _ _ (sym c.in_default.ensures) u) k c.make_closed.ensures c.refuse-in-Refused.ensures
 
 pub returns-in-Response : goal.returns-in-Response
 unfolding open_of
 returns-in-Response c =
     let a = c.args in
-    let call = c.check_call.ensures in
-    let t = test_passed _ _ call c.in-Done.is in
-    let read = c.read_response.ensures in
-    let u = sym read ∙ ap told_open c.in-Response.is in
-    promise_as _ _ a.state a.out.now _ _ (second_go _ _ _ tt _ t u) c.write_message_1.ensures
+    let u = sym c.read_response.ensures ∙ ap told_open c.in-Response.is in
+    promise_as _ _ a.state a.out.now _ _ (second_go _ _ _ tt _ (sym c.in_default.ensures) u) c.write_message_1.ensures

@@ -1,14 +1,19 @@
--- `is_in_step` keeps its promise: the step's number and the name's length, one test behind the other.
-use Rattle.session.proofs.Chains.{in_no, in_yes}
+-- `is_in_step` keeps its promise: the step and the name's length, one test behind the other.
+use mathlib.Core.Bool.{Bool, ◌&&◌}
+use mathlib.Core.Path.{◌∙◌, ap}
+use lib.Dec.{leb}
+use Rattle.session.specs.Record.{in_step}
+use Rattle.session.proofs.Chains.{same_step}
 use Rattle.session.proofs.state.is_in_step.Goals as goal
 
-pub returns-then-number_step-k : goal.returns-then-number_step-k
-returns-then-number_step-k c =
+pub returns-then-eq : goal.returns-then-eq
+unfolding in_step
+returns-then-eq c =
     let a = c.args in
-    in_no a.state a.k c.number_step.result c.number_step.ensures c.if-number_step-k.true
+    ap (λ (t : Bool). t && leb a.state.begun.username.len 16) (same_step _ a.state.step a.step c.if-eq.ensures)
 
-pub returns : goal.returns
-returns c =
+pub returns-else-eq : goal.returns-else-eq
+unfolding in_step
+returns-else-eq c =
     let a = c.args in
-    let n = c.number_step in
-    in_yes a.state a.k n.result n.ensures c.if-number_step-k.false
+    c.if-eq.false ∙ ap (λ (t : Bool). t && leb a.state.begun.username.len 16) (same_step _ a.state.step a.step c.if-eq.ensures)

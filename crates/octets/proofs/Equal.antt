@@ -70,13 +70,12 @@ by_tests d x y false t e f = ne_eqb _ 0 (λ h. eqb-false d 0 e (or_none d (bit_x
 pub or-xor : (d x y : ℕ) → eqb (bit_or d (bit_xor x y)) 0 ≡ (eqb d 0 && eqb x y)
 or-xor d x y = by_tests d x y (eqb d 0) (eqb x y) refl refl
 
--- one turn of a comparison
-pub same_turn : (a b : List ℕ) (d i : ℕ) → i < length a → length a ≡ length b → eqb d 0 ≡ same (take i a) (take i b)
-    → eqb (bit_or d (bit_xor (get_or a i 0) (get_or b i 0))) 0 ≡ same (take (i + 1) a) (take (i + 1) b)
-same_turn a b d i h n e =
-    let k : i < length b = omega arith in
+-- one turn of a comparison, at the bytes x and y behind the first i
+pub same_turn : (a b : List ℕ) (d i x y : ℕ) → i < length a → i < length b → x ≡ get_or a i 0 → y ≡ get_or b i 0
+    → eqb d 0 ≡ same (take i a) (take i b) → eqb (bit_or d (bit_xor x y)) 0 ≡ same (take (i + 1) a) (take (i + 1) b)
+same_turn a b d i x y h k p q e =
     let m : length (take i a) ≡ length (take i b) = omega (arith, length-take-le i a (le_of_lt h), length-take-le i b (le_of_lt k)) in
-    or-xor d (get_or a i 0) (get_or b i 0)
-    ∙ ap (λ (t : Bool). t && eqb (get_or a i 0) (get_or b i 0)) e
+    or-xor d x y
+    ∙ ap₂ (λ (s t : Bool). s && t) e (ap₂ eqb p q)
     ∙ sym (same-snoc (take i a) (take i b) (get_or a i 0) (get_or b i 0) m)
     ∙ rw (add-one, take-suc a i 0, take-suc b i 0)

@@ -1,19 +1,15 @@
 -- Laws of a list with zeros behind it, and of what is put at the start of zeros.
-use Prim.Native.Nat.{ℕ, zero, suc, ◌+◌, ◌-◌, ◌≤◌}
+use Prim.Native.Nat.{ℕ, ◌+◌, ◌-◌, ◌≤◌, min}
 use native.Mathlib.Omega.{arith}
 use mathlib.Core.Bool.{Bool}
-use mathlib.Core.List.{List, [], ◌++◌, append-nil}
-use mathlib.Core.Path.{◌≡◌, refl, sym, ◌∙◌, ap}
-use lib.ListN.{length, take, drop, replicate, length-drop, length-replicate, drop_of_length-le}
-use lib.Seq.{length-take-le, take_all}
+use mathlib.Core.List.{List, ◌++◌, append-nil}
+use mathlib.Core.Path.{◌≡◌, sym, ◌∙◌, ap, ap₂}
+use lib.ListN.{length, take, drop, replicate, length-drop, length-replicate}
+use lib.Seq.{length-take-le}
+use Rattle.std.proofs.lemmas.List.{drop-replicate, drop_min, length-take, take_min, take_rest}
 use Rattle.octets.specs.Place.{part, filled, begun}
 use Rattle.octets.specs.Promise.{PutPromise}
 use Rattle.octets.proofs.Place.{put_done, begun_first}
-
-pub drop-replicate : (k n : ℕ) → drop k (replicate {A = ℕ} n 0) ≡ replicate {A = ℕ} (n - k) 0
-drop-replicate zero n = let e : n - 0 ≡ n = omega arith in rw e refl
-drop-replicate (suc k) zero = let e : 0 - suc k ≡ 0 = omega arith in rw e refl
-drop-replicate (suc k) (suc n) = let e : suc n - suc k ≡ n - k = omega arith in rw e (drop-replicate k n)
 
 -- a list that is long enough stays
 pub filled_long : (n : ℕ) (l : List ℕ) → n ≤ length l → filled n l ≡ l
@@ -26,15 +22,16 @@ filled-part n l a h =
     let e : length (part l a n) ≡ n = length-take-le n (drop a l) (omega (arith, length-drop a l)) in
     filled_long n (part l a n) (omega arith)
 
--- past the end there are zeros alone
-pub filled_past : (n : ℕ) (l : List ℕ) (a : ℕ) → length l ≤ a → replicate n 0 ≡ filled n (part l a n)
+-- what is cut out of a list and has zeros behind it
+pub cut_filled : (n k m a : ℕ) (l x : List ℕ) → k ≡ min a (length l) → m ≡ min n (length (take (length l - k) (drop k l)))
+    → x ≡ take m (take (length l - k) (drop k l)) → x ++ drop m (replicate {A = ℕ} n 0) ≡ filled n (part l a n)
 unfolding filled
-filled_past n l a h =
-    let e : n - 0 ≡ n = omega arith in
-    sym
-    (ap (λ (m : List ℕ). filled n (take n m)) (drop_of_length-le l h)
-    ∙ ap (filled n) (take_all n [] (omega arith))
-    ∙ ap (λ (k : ℕ). replicate k 0) e)
+cut_filled n k m a l x e f g =
+    let q : List ℕ = take (length l - k) (drop k l) in
+    let p : q ≡ drop a l = take_rest l k ∙ ap (λ (j : ℕ). drop j l) e ∙ drop_min a l in
+    let y : x ≡ part l a n = g ∙ ap (λ (j : ℕ). take j q) f ∙ take_min n q ∙ ap (take n) p in
+    let z : n - m ≡ n - length (part l a n) = ap (λ (j : ℕ). n - j) (f ∙ ap (λ (j : List ℕ). min n (length j)) p ∙ sym (length-take n (drop a l))) in
+    ap₂ ◌++◌ y (drop-replicate m n 0 ∙ ap (λ (j : ℕ). replicate {A = ℕ} j 0) z)
 
 -- what is put at the start of zeros
 pub put_filled : (n : ℕ) (s : List ℕ) (r : Bool) (x : List ℕ) → PutPromise (replicate n 0) 0 s r x → length s ≤ n → x ≡ filled n s
@@ -42,7 +39,7 @@ unfolding begun filled
 put_filled n s r x p h =
     put_done (replicate n 0) 0 s r x p (omega (arith, length-replicate {A = ℕ} n 0))
     ∙ begun_first s (replicate n 0)
-    ∙ ap (λ (m : List ℕ). s ++ m) (drop-replicate (length s) n)
+    ∙ ap (λ (m : List ℕ). s ++ m) (drop-replicate (length s) n 0)
 
 -- a part that is put at the start of zeros, with what is known of its length k
 pub put_part : (n k : ℕ) (l : List ℕ) (a : ℕ) (r : Bool) (x : List ℕ) → PutPromise (replicate n 0) 0 (part l a k) r x
@@ -50,9 +47,3 @@ pub put_part : (n k : ℕ) (l : List ℕ) (a : ℕ) (r : Bool) (x : List ℕ) �
 put_part n k l a r x p h e g =
     let m : length (part l a k) ≡ k = length-take-le k (drop a l) (omega (arith, length-drop a l)) in
     put_filled n (part l a k) r x p (omega arith) ∙ ap (filled n) e
-
--- a part that the list's end cuts short has all that is left
-pub part_rest : (n : ℕ) (l : List ℕ) (a : ℕ) → length l ≤ a + n → part l a (length l - a) ≡ part l a n
-part_rest n l a h =
-    take_all (length l - a) (drop a l) (omega (arith, length-drop a l))
-    ∙ sym (take_all n (drop a l) (omega (arith, length-drop a l)))

@@ -14,6 +14,21 @@ use Rattle.octets.proofs.load_le4.Reads as load-le4-reads
 use Rattle.octets.proofs.put.Reads as put-reads
 use Rattle.octets.proofs.same.Reads as same-reads
 use Rattle.octets.proofs.block.Reads as block-reads
+use Rattle.octets.proofs.le.Reads as le-reads
+use Rattle.octets.proofs.be.Reads as be-reads
+use Rattle.octets.proofs.cut.Reads as cut-reads
+
+pub le_only : (n : ℕ) (f : _) (κs : _) (args : _) (a b : _) (s t : _)
+    → le-reads.Post n f κs args a s → le-reads.Post n f κs args b t → a ≡ b
+le_only n f κs args a b s t p q = p ∙ sym q
+
+pub be_only : (n : ℕ) (f : _) (κs : _) (args : _) (a b : _) (s t : _)
+    → be-reads.Post n f κs args a s → be-reads.Post n f κs args b t → a ≡ b
+be_only n f κs args a b s t p q = p ∙ sym q
+
+pub cut_only : (n : ℕ) (f : _) (κs : _) (args : _) (a b : _) (s t : _)
+    → cut-reads.Post n f κs args a s → cut-reads.Post n f κs args b t → a ≡ b
+cut_only n f κs args a b s t p q = p ∙ sym q
 
 pub le2_only : (κs : _) (args : _) (a b : _) (s t : _) → le2-reads.Post κs args a s → le2-reads.Post κs args b t → a ≡ b
 le2_only κs args a b s t p q = p ∙ sym q

@@ -1,13 +1,13 @@
 -- Laws of places: parts of a list, and what stands where after bytes were put at a place or from the start on.
 use Prim.Native.Nat.{ℕ, suc, ◌+◌, ◌-◌, ◌<◌, ◌≤◌}
 use native.Mathlib.Omega.{arith}
-use native.Mathlib.Numerals.{add-one}
 use mathlib.Core.Bool.{Bool, true, false}
 use mathlib.Core.List.{List, [], ◌∷◌, ◌++◌, append_assoc}
 use mathlib.Core.Path.{◌≡◌, refl, sym, ◌∙◌, ap, ap₂}
 use lib.ListN.{length, take, drop, set, get_or, length-append, length-drop, take-append-drop}
-use lib.Seq.{take_at, take_all, take-length, length-take-le, drop_at, drop-drop, drop-cons, set_at, set_split, append_snoc, paste, paste-suc}
+use lib.Seq.{take_at, take_all, length-take-le, drop_at, drop-drop, drop-cons, set_at, set_split, append_snoc}
 use borrow.Author.Tests.{le-leb, lt-leb}
+use borrow.Rule.Slice.PartMut.{put_mid}
 use Rattle.octets.specs.Place.{part, pasted, begun, placed}
 use Rattle.octets.specs.Promise.{PutPromise}
 
@@ -26,10 +26,11 @@ pub placed-not : (d : List ℕ) (a : ℕ) (s : List ℕ) → length d < a + leng
 unfolding placed
 placed-not d a s h = rw (lt-leb (a + length s) (length d) h)
 
--- the last piece of a copy is the whole of it
-pub paste_whole : (d : List ℕ) (a : ℕ) (s : List ℕ) → paste d a s (length s) ≡ pasted d a s
+-- a part written over
+pub put_mid-pasted : (d : List ℕ) (a k : ℕ) (s x : List ℕ) → k ≡ length s → x ≡ s → put_mid a k d x ≡ pasted d a s
 unfolding pasted
-paste_whole d a s = rw (take-length, append_assoc)
+put_mid-pasted d a k s x e f =
+    ap₂ (λ (j : ℕ) (y : List ℕ). put_mid a j d y) e f ∙ ap (λ (t : List ℕ). take a d ++ (s ++ t)) (drop-drop (length s) a d)
 
 pub length-pasted : (d : List ℕ) (a : ℕ) (s : List ℕ) → a + length s ≤ length d → length (pasted d a s) ≡ length d
 unfolding pasted
@@ -136,11 +137,6 @@ begun_drop x d k e = drop_at x _ k e ∙ ap (λ (j : ℕ). drop j d) e
 pub length_begun : (x d : List ℕ) → length x ≤ length d → length (begun x d) ≡ length d
 unfolding begun
 length_begun x d h = simp (length-append, length-drop) (omega arith)
-
--- one turn of a copy
-pub copy_turn : (x d s : List ℕ) (a i : ℕ) → x ≡ paste d a s i → a + i < length d → i < length s
-    → set x (a + i) (get_or s i 0) ≡ paste d a s (i + 1)
-copy_turn x d s a i e h g = rw (e, add-one) (paste-suc d a s i 0 h g)
 
 -- a put that is refused
 pub put_no : (d : List ℕ) (a : ℕ) (s : List ℕ) → length d < a + length s → PutPromise d a s false d

@@ -7,6 +7,39 @@ ghost use Rattle.octets.specs.Place.{part, filled, pasted};
 ghost use Rattle.octets.specs.Equal.{same};
 ghost use Rattle.octets.specs.Promise.{PutPromise};
 
+// A number as N bytes, the low byte first; of a number that needs more, the low N bytes.
+pub fn le<const N: usize>(n: u64) -> [u8; N]
+    ensures { result ≡ le N n }
+{
+    let mut b = [0u8; N];
+    let mut rest = n;
+    for x in &mut b {
+        *x = (rest % 256) as u8;
+        rest /= 256;
+    }
+    b
+}
+
+// A number as N bytes, the high byte first; of a number that needs more, the low N bytes.
+pub fn be<const N: usize>(n: u64) -> [u8; N]
+    ensures { result ≡ be N n }
+{
+    let mut b = le(n);
+    b.reverse();
+    b
+}
+
+// The N bytes from `at` on; bytes past the end count as 0.
+pub fn cut<const N: usize>(s: &[u8], at: usize) -> [u8; N]
+    ensures { result ≡ filled N (part s.now at N) }
+{
+    let rest = &s[at.min(s.len())..];
+    let n = N.min(rest.len());
+    let mut b = [0u8; N];
+    b[..n].copy_from_slice(&rest[..n]);
+    b
+}
+
 // A number as two bytes, the low byte first.
 pub fn le2(n: u16) -> [u8; 2]
     ensures { result ≡ le 2 n }
@@ -54,73 +87,35 @@ pub fn be8(n: u64) -> [u8; 8]
     ]
 }
 
-// The byte k places after `at`, 0 past the end: so every place can be asked.
-fn load_byte(s: &[u8], at: usize, k: usize) -> u32
-    ensures { (result ≡ get_or s.now (at + k) 0) × (result < 256) }
-{
-    if s.len() <= at {
-        return 0;
-    }
-    if s.len() - at <= k {
-        return 0;
-    }
-    s[at + k] as u32
-}
-
 // The number that the two bytes from `at` on say, the low byte first; bytes past the end count as 0.
 pub fn load_le2(s: &[u8], at: usize) -> u16
     ensures { result ≡ unle (part s.now at 2) }
 {
-    (load_byte(s, at, 0) + 256 * load_byte(s, at, 1)) as u16
+    u16::from_le_bytes(cut(s, at))
 }
 
 // The number that the four bytes from `at` on say, the low byte first; bytes past the end count as 0.
 pub fn load_le4(s: &[u8], at: usize) -> u32
     ensures { result ≡ unle (part s.now at 4) }
 {
-    load_byte(s, at, 0)
-        + 256 * (load_byte(s, at, 1) + 256 * (load_byte(s, at, 2) + 256 * load_byte(s, at, 3)))
+    u32::from_le_bytes(cut(s, at))
 }
 
 // The sixteen bytes from `at` on; bytes past the end count as 0.
 pub fn block(s: &[u8], at: usize) -> [u8; 16]
     ensures { result ≡ filled 16 (part s.now at 16) }
 {
-    let mut b = [0u8; 16];
-    if s.len() <= at {
-        return b;
-    }
-    if s.len() - at < 16 {
-        put(&mut b, 0, &s[at..]);
-        return b;
-    }
-    put(&mut b, 0, &s[at..at + 16]);
-    b
-}
-
-// Copies `src` into `dst` at `at`, where all of it is known to fit.
-fn copy(dst: &mut [u8], at: usize, src: &[u8])
-    requires { at + length src.now ≤ length dst.old }
-    ensures { dst.new ≡ pasted dst.old at src.now }
-{
-    let mut i: usize = 0;
-    while i < src.len() {
-        dst[at + i] = src[i];
-        i += 1;
-    }
+    cut(s, at)
 }
 
 // Puts `src` into `dst` at `at` where all of it fits; else nothing changes and the answer is false.
 pub fn put(dst: &mut [u8], at: usize, src: &[u8]) -> bool
     ensures { PutPromise dst.old at src.now result dst.new }
 {
-    if dst.len() < src.len() {
+    if src.len() > dst.len() || at > dst.len() - src.len() {
         return false;
     }
-    if dst.len() - src.len() < at {
-        return false;
-    }
-    copy(dst, at, src);
+    dst[at..at + src.len()].copy_from_slice(src);
     true
 }
 
@@ -132,11 +127,9 @@ pub fn same(a: &[u8], b: &[u8]) -> bool
     if a.len() != b.len() {
         return false;
     }
-    let mut d: u8 = 0;
-    let mut i: usize = 0;
-    while i < a.len() {
-        d |= a[i] ^ b[i];
-        i += 1;
+    let mut d = 0;
+    for (x, y) in a.iter().zip(b) {
+        d |= x ^ y;
     }
     d == 0
 }

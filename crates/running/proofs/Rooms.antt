@@ -6,9 +6,10 @@ use mathlib.Core.Path.{◌≡◌, refl, sym, ◌∙◌, ap}
 use mathlib.Core.List.{List, ◌∷◌, ◌++◌}
 use lib.ListN.{length, take, replicate, length-append, length-replicate}
 use lib.Seq.{take_at, take-append-add, length-take-le}
+use Rattle.std.proofs.lemmas.List.{drop-replicate}
 use Rattle.octets.specs.Place.{filled, pasted, begun}
 use Rattle.octets.specs.Promise.{PutPromise}
-use Rattle.octets.proofs.Filled.{drop-replicate, put_filled, filled_long}
+use Rattle.octets.proofs.Filled.{put_filled, filled_long}
 use Rattle.octets.proofs.Place.{put_done, begun_put}
 use Rattle.running.specs.Running.{room}
 
@@ -42,7 +43,7 @@ room_full p e = filled_long 64 p (omega arith)
 
 begun_zeros : (n : ℕ) (s : List ℕ) → begun s (replicate n 0) ≡ filled n s
 unfolding begun filled
-begun_zeros n s = ap (λ (t : List ℕ). s ++ t) (drop-replicate (length s) n)
+begun_zeros n s = ap (λ (t : List ℕ). s ++ t) (drop-replicate (length s) n 0)
 
 -- two pieces put into zeros, one behind the other
 pub fill_block_law : (buf s x y : List ℕ) (n : ℕ) (a b : Bool) → length buf ≡ 64 → n + length s ≤ 64

@@ -12,7 +12,7 @@ ghost use Rattle.reader.specs.Uncbc.{uncbc};
 
 use aes::Aes128;
 use refusal::Refusal;
-use suite::{Stage, SubState};
+use suite::SubState;
 
 // The block of plain text at `at` of an encrypted body: the inverse cipher of that block, and the block before it added.
 fn decrypt_block(w: Aes128, body: &[u8], at: usize) -> [u8; 16]
@@ -30,14 +30,10 @@ fn check_pad(x: &[u8], a: usize, p: usize) -> bool
     requires { (a + p ≤ length x.now) × (p < 256) }
     ensures { result ≡ same (part x.now a p) (counting p) }
 {
-    let mut i: usize = 0;
-    while i < p {
-        if crate::widen(x[a + i]) != i + 1 {
-            return false;
-        }
-        i += 1;
-    }
-    true
+    x[a..a + p]
+        .iter()
+        .zip(1..p + 1)
+        .all(|(b, i)| usize::from(*b) == i)
 }
 
 // The last t bytes of the plain text of an encrypted body; past them zeros.
@@ -48,62 +44,57 @@ fn decrypt_tail(w: Aes128, body: &[u8], t: usize) -> [u8; 256]
 {
     let mut tail = [0u8; 256];
     let start = body.len() - t;
-    let mut i: usize = 0;
-    while i < t {
-        let b = decrypt_block(w, body, start + i);
-        octets::put(&mut tail, i, &b);
-        i += 16;
+    for i in 0..t / 16 {
+        let b = decrypt_block(w, body, start + 16 * i);
+        octets::put(&mut tail, 16 * i, &b);
     }
     tail
 }
 
 // What stands before the pad of an encrypted body of whole blocks: the pad is looked at before anything changes.
-fn strip_pad(s: SubState, body: &[u8]) -> Stage
+fn strip_pad(s: SubState, body: &[u8]) -> Result<usize, Refusal>
     requires { (32 ≤ length body.now) × (length body.now % 16 ≡ 0) }
     ensures { stage_told result ≡ counted (unpadded ((suite_of s).dec (take 16 body.now) (drop 16 body.now))) }
 {
-    let keys = s.keys;
-    let key = keys.aes_key();
-    let w = Aes128::new(key);
+    let w = Aes128::new(s.keys.aes_key());
     let n = body.len() - 16;
     let last = decrypt_block(w, body, n);
-    let p = crate::widen(last[15]);
+    let p = usize::from(last[15]);
     if n <= p {
-        return Stage::Stop(Refusal::IncorrectConfidentialityTrailerLen);
+        return Err(Refusal::IncorrectConfidentialityTrailerLen);
     }
     let t = (p / 16 + 1) * 16;
     let tail = decrypt_tail(w, body, t);
     if !check_pad(&tail, t - 1 - p, p) {
-        return Stage::Stop(Refusal::InvalidConfidentialityTrailer);
+        return Err(Refusal::InvalidConfidentialityTrailer);
     }
-    Stage::Go(n - 1 - p)
+    Ok(n - 1 - p)
 }
 
 // An encrypted body: the IV, then whole blocks, at least one.
-fn read_encrypted(s: SubState, body: &[u8]) -> Stage
+fn read_encrypted(s: SubState, body: &[u8]) -> Result<usize, Refusal>
     ensures { stage_told result ≡ counted (decrypted (suite_of s) body.now) }
 {
     if body.len() < 16 {
-        return Stage::Stop(Refusal::NotEnoughData);
+        return Err(Refusal::NotEnoughData);
     }
     let n = body.len() - 16;
     if n % 16 != 0 {
-        return Stage::Stop(Refusal::NotWholeBlocks);
+        return Err(Refusal::NotWholeBlocks);
     }
     if n == 0 {
-        return Stage::Stop(Refusal::IncorrectConfidentialityTrailerLen);
+        return Err(Refusal::IncorrectConfidentialityTrailerLen);
     }
     strip_pad(s, body)
 }
 
 // Without AES the body is the payload.
-pub(crate) fn read_body(s: SubState, body: &[u8]) -> Stage
+pub(crate) fn read_body(s: SubState, body: &[u8]) -> Result<usize, Refusal>
     ensures { stage_told result ≡ counted (payload_in (suite_of s) body.now) }
 {
-    let c = s.confidentiality;
-    if suite::encrypts(c) {
+    if suite::encrypts(s.confidentiality) {
         read_encrypted(s, body)
     } else {
-        Stage::Go(body.len())
+        Ok(body.len())
     }
 }

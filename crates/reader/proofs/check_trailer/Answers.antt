@@ -23,9 +23,9 @@ returns-then-next-ne7 c =
 pub returns-then-k-q : goal.returns-then-k-q
 returns-then-k-q c =
     trailer_done _ _ _ _ c.code_len-m.ensures (omega arith) _ c.same.ensures (c.if-not-same.false) (omega arith)
-    c.if-next-ne7.false _ _ c.widen-q.ensures.0 (omega arith)
+    c.if-next-ne7.false _ _ c.from-q.ensures (omega arith)
 
 pub returns : goal.returns
 returns c =
     trailer_done _ _ _ _ c.code_len-m.ensures (omega arith) _ c.same.ensures (c.if-not-same.false) (omega arith)
-    c.if-next-ne7.false _ _ c.widen-q.ensures.0 refl
+    c.if-next-ne7.false _ _ c.from-q.ensures refl

@@ -2,7 +2,7 @@
 use Prim.Native.Nat.{ℕ}
 use native.Mathlib.Omega.{arith}
 use mathlib.Core.List.{List}
-use mathlib.Core.Path.{◌≡◌, ap, sym, subst}
+use mathlib.Core.Path.{◌≡◌, refl, ap, sym, subst}
 use lib.ListN.{take}
 use Rattle.framing.specs.Read.{Computed}
 use Rattle.framing.proofs.Sound.{head_inv}
@@ -29,4 +29,4 @@ returns c =
     tells _ _ _
     (told_computed S l (take m x.code) _ _ _ _ c.requires
     (subst (λ (y : List ℕ). Computed S l y x.blocks) e c.expect_code-c.ensures)
-    c.read_rest.ensures.answer c.read_rest.ensures.count)
+    c.read_rest.ensures refl)

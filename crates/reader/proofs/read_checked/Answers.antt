@@ -5,5 +5,5 @@ use Rattle.framing.proofs.Coded.{told_head}
 use Rattle.reader.proofs.Promised.{tells}
 use Rattle.reader.proofs.read_checked.Goals as goal
 
-pub returns-in-Stop : goal.returns-in-Stop
-returns-in-Stop c = tells _ _ _ (told_head _ _ _ _ _ c.check_head-h.ensures (ap head_told c.in-Stop.is))
+pub returns-in-Err : goal.returns-in-Err
+returns-in-Err c = tells _ _ _ (told_head _ _ _ _ _ c.check_head.ensures (ap head_told c.in-Err.is))

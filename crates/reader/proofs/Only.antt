@@ -7,7 +7,6 @@ use Rattle.refusal.specs.declared.Refusal.{Refusal}
 use Rattle.refusal.proofs.Answer.{answer_one}
 use Rattle.framing.specs.Packet.{Message}
 use Rattle.framing.specs.Told.{Shown}
-use Rattle.suite.specs.declared.PayloadType.{PayloadType}
 use Rattle.suite.proofs.Only.{type_one}
 use Rattle.reader.specs.Answers.{accepted_told, read_told, Tells}
 use Rattle.reader.specs.declared.Accepted.{Accepted}

@@ -19,10 +19,8 @@ fn decrypt_block(w: Aes128, body: &[u8], at: usize) -> [u8; 16]
     requires { (16 ≤ at) × (at % 16 ≡ 0) × (at + 16 ≤ length body.now) }
     ensures { result ≡ part (uncbc (keys_of w) (take 16 body.now) (drop 16 body.now)) (at - 16) 16 }
 {
-    let cipher = octets::block(body, at);
-    let before = octets::block(body, at - 16);
-    let plain = w.decrypt_block(cipher);
-    cbc::xor_block(plain, before)
+    let plain = w.decrypt_block(octets::cut(body, at));
+    cbc::xor_block(plain, octets::cut(body, at - 16))
 }
 
 // Whether the p bytes from `a` on are 1, 2, .. p.

@@ -117,12 +117,7 @@ fn find_payload(s: SubState, code: &[u8], packet: &[u8]) -> Result<usize, Refusa
 }
 
 // All behind the head, given that code.
-fn read_rest(
-    s: SubState,
-    ty: PayloadType,
-    code: &[u8],
-    packet: &[u8],
-) -> Result<Accepted, Refusal>
+fn read_rest(s: SubState, ty: PayloadType, code: &[u8], packet: &[u8]) -> Result<Accepted, Refusal>
     ensures { read_told result ≡ shown (rest_of (suite_of s) code.now packet.now (type_number ty)) }
 {
     let len = find_payload(s, code, packet)?;

@@ -1,5 +1,4 @@
 -- `check_pad` keeps its promise: the bytes beside 1, 2, .. p, pair by pair.
-use Prim.Native.Nat.{suc}
 use Rattle.std.proofs.Common.{◌≡◌, ℕ, ◌+◌, ◌-◌, ◌&&◌, List, [], ◌∷◌, length, nat_eq, refl, sym, ap, ◌∙◌, arith, rules, tests}
 use Rattle.std.specs.Slice.Iter.{iter_rest}
 use Rattle.std.specs.List.{list_all, range_with_len, zip}

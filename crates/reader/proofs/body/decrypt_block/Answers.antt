@@ -15,6 +15,6 @@ returns c =
     let p = c.requires in
     c.xor_block.ensures ∙ ap₂ xor_block
     (c.decrypt_block-plain.ensures ∙ ap (inv_cipher (keys_of a.w))
-    (c.block-cipher.ensures ∙ filled-part 16 a.body.now a.at p.2))
-    (c.block-before.ensures ∙ filled-part 16 a.body.now (a.at - 16) (omega arith)) ∙ body_block (keys_of a.w) a.body.now a.at
+    (c.cut.ensures ∙ filled-part 16 a.body.now a.at p.2))
+    (c.cut-2.ensures ∙ filled-part 16 a.body.now (a.at - 16) (omega arith)) ∙ body_block (keys_of a.w) a.body.now a.at
     p.0 p.1 p.2

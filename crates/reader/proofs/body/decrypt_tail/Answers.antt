@@ -20,6 +20,6 @@ loop-i-preserved c =
     let next : 16 * i + 16 ≡ 16 * (i + 1) = omega arith in (
       c.put.auto.dst ∙ c.loop-i.invariant.0,
       subst (λ (k : ℕ). take k c.put.new.dst ≡ part x (length l - 16 - a.t) k) next
-      (tail_turn c.loop-i.tail x c.decrypt_block-b.result c.put.new.dst (length l - 16 - a.t) (16 * i) _ c.loop-i.invariant.1
+          (tail_turn c.loop-i.tail x c.decrypt_block-b.result c.put.new.dst (length l - 16 - a.t) (16 * i) _ c.loop-i.invariant.1
           (c.decrypt_block-b.ensures ∙ ap (λ (k : ℕ). part x k 16) from) n (omega arith) c.put.ensures),
     )

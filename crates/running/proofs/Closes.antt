@@ -9,6 +9,7 @@ use Rattle.octets.specs.Number.{be}
 use Rattle.octets.specs.Place.{filled, pasted}
 use Rattle.running.specs.Hash.{Hash, plus, runs, zeros, pad}
 use Rattle.running.specs.Running.{State, room, pending, closing, digest_of, count_of}
+use Rattle.running.proofs.Promised.{coded}
 use Rattle.running.proofs.Rooms.{length_room, take_room}
 use Rattle.running.proofs.Blocks.{runs_two}
 
@@ -47,24 +48,24 @@ length-pad n =
     omega arith
 
 module _ {C : Type 0} (H : Hash C) where
-  pub close_one : (st : State C) (b l : List ℕ) (h : C) → length st.buf ≡ 64 → st.len % 64 < 56
+  pub close_one : (st : State C) (b l x : List ℕ) (h : C) → length st.buf ≡ 64 → st.len % 64 < 56
       → b ≡ room (take (st.len % 64) st.buf ++ (0x80 ∷ [])) → l ≡ pasted b 56 (be 8 (st.len * 8))
-      → h ≡ runs H.compress (length l / 64) st.h l
-      → (H.code h ≡ digest_of H st) × (plus st.blocks 1 ≡ count_of st)
+      → h ≡ runs H.compress (length l / 64) st.h l → x ≡ H.code h
+      → ◌≡◌ {A = List ℕ × ℕ} (x, plus st.blocks 1) (digest_of H st, count_of st)
   unfolding closing digest_of count_of pending
-  close_one st b l h e m eb el eh =
+  close_one st b l x h e m eb el eh ex =
       let p : List ℕ = take (st.len % 64) st.buf in
       let np : length p ≡ st.len % 64 = length-take-le (st.len % 64) st.buf (omega arith) in
       let f : l ≡ p ++ pad st.len = el ∙ ap (λ (t : List ℕ). pasted t 56 (be 8 (st.len * 8))) eb ∙ sym (closing_one p st.len np m) in
       let n : length (p ++ pad st.len) / 64 ≡ 1 = rw (length-append p (pad st.len), np, length-pad st.len) (omega arith) in
-      (ap H.code (eh ∙ ap (λ (t : List ℕ). runs H.compress (length t / 64) st.h t) f), ap (plus st.blocks) (sym n))
+      coded (ex ∙ ap H.code (eh ∙ ap (λ (t : List ℕ). runs H.compress (length t / 64) st.h t) f)) (ap (plus st.blocks) (sym n))
 
-  pub close_two : (st : State C) (b l : List ℕ) (g h : C) → length st.buf ≡ 64 → 56 ≤ st.len % 64
+  pub close_two : (st : State C) (b l x : List ℕ) (g h : C) → length st.buf ≡ 64 → 56 ≤ st.len % 64
       → b ≡ room (take (st.len % 64) st.buf ++ (0x80 ∷ [])) → l ≡ pasted (replicate 64 0) 56 (be 8 (st.len * 8))
-      → g ≡ runs H.compress (length b / 64) st.h b → h ≡ runs H.compress (length l / 64) g l
-      → (H.code h ≡ digest_of H st) × (plus st.blocks 2 ≡ count_of st)
+      → g ≡ runs H.compress (length b / 64) st.h b → h ≡ runs H.compress (length l / 64) g l → x ≡ H.code h
+      → ◌≡◌ {A = List ℕ × ℕ} (x, plus st.blocks 2) (digest_of H st, count_of st)
   unfolding closing digest_of count_of pending pasted
-  close_two st b l g h e m eb el eg eh =
+  close_two st b l x g h e m eb el eg eh ex =
       let p : List ℕ = take (st.len % 64) st.buf in
       let np : length p ≡ st.len % 64 = length-take-le (st.len % 64) st.buf (omega arith) in
       let nb : length b ≡ 64 = ap length eb ∙ length_room (p ++ (0x80 ∷ [])) (rw (length-append p (0x80 ∷ []), np) (omega arith)) in
@@ -74,4 +75,4 @@ module _ {C : Type 0} (H : Hash C) where
       let k : h ≡ runs H.compress 2 st.h (b ++ l) = eh ∙ rw (nl, eg, nb) (runs_two H.compress st.h b l nb) in
       let j : runs H.compress 2 st.h (b ++ l) ≡ runs H.compress (length (p ++ pad st.len) / 64) st.h (p ++ pad st.len) =
       ap₂ (λ (i : ℕ) (t : List ℕ). runs H.compress i st.h t) (sym n) f in
-      (ap H.code (k ∙ j), ap (plus st.blocks) (sym n))
+      coded (ex ∙ ap H.code (k ∙ j)) (ap (plus st.blocks) (sym n))

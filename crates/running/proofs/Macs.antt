@@ -18,6 +18,7 @@ use Rattle.running.specs.Running.{State, room, closing, taken, digest_of, count_
 use Rattle.running.specs.Mac.{MacState, hmac_of, hmac_blocks_of, key_block_of, key_blocks_of, inner_of}
 use Rattle.running.specs.Mac.{mac_after, mac_taken, mac_running, mac_digest, mac_count}
 use Rattle.running.specs.Promise.{limit}
+use Rattle.running.proofs.Promised.{coded}
 use Rattle.running.proofs.Blocks.{runs_two}
 use Rattle.running.proofs.Takes.{taken_after, after_taken}
 use Rattle.running.proofs.Sizes.{block_count-ceiling, last_one, digest-length, fits}
@@ -29,12 +30,12 @@ module _ {C : Type 0} (H : Hash C) (ok : Sized H) where
   key_block_short k b l e = (e ∙ sym (key_short (digest H) 64 k l), sym (key_count_short (digest H) 64 block_count k l))
 
   pub key_block_long : (k b d : List ℕ) (x y : State C) (n : ℕ) → 64 < length k → length k ≤ limit → x ≡ after H [] → y ≡ taken H x k
-      → d ≡ digest_of H y → n ≡ count_of y → b ≡ room d → (b ≡ key_block_of H k) × (n ≡ key_blocks_of H k)
-  key_block_long k b d x y n l m e f p q g =
+      → ◌≡◌ {A = List ℕ × ℕ} (d, n) (digest_of H y, count_of y) → b ≡ room d → (b ≡ key_block_of H k) × (n ≡ key_blocks_of H k)
+  key_block_long k b d x y n l m e f p g =
       let z : y ≡ after H k = f ∙ ap (λ (t : State C). taken H t k) e ∙ after_taken H k (omega arith) in
-      let c : d ≡ digest H k = p ∙ ap (digest_of H) z ∙ digest_after H k in (
+      let c : d ≡ digest H k = (λ i. (p i).0) ∙ ap (digest_of H) z ∙ digest_after H k in (
         g ∙ ap room c ∙ sym (key_long (digest H) 64 k l),
-        q ∙ ap count_of z ∙ count_after H k (omega arith) ∙ sym (key_count_long (digest H) 64 block_count k l),
+        (λ i. (p i).1) ∙ ap count_of z ∙ count_after H k (omega arith) ∙ sym (key_count_long (digest H) 64 block_count k l),
       )
 
   -- sizes: the key's block xored with a byte, and what the inner hash is given
@@ -62,14 +63,14 @@ module _ {C : Type 0} (H : Hash C) (ok : Sized H) where
       rw n (λ i. record { h = e i; buf = sym (ap room u) i; len = 64; blocks = 1 })
 
   -- the state after the key
-  pub begin_law : (k kb ip op : List ℕ) (u v g h : C) (n c : ℕ) → kb ≡ key_block_of H k → n ≡ key_blocks_of H k
+  pub begin_law : (k kb ip op : List ℕ) (u v g h : C) (n : ℕ) → kb ≡ key_block_of H k → n ≡ key_blocks_of H k
       → ip ≡ xored 0x36 kb → op ≡ xored 0x5c kb → u ≡ H.first → g ≡ runs H.compress (length ip / 64) u ip
-      → v ≡ H.first → h ≡ runs H.compress (length op / 64) v op → c ≡ plus n 1
+      → v ≡ H.first → h ≡ runs H.compress (length op / 64) v op
       → ◌≡◌ {A = MacState C}
-      (record { inner = record { h = g; buf = replicate 64 0; len = 64; blocks = 1 }; outer = h; blocks = c })
+      (record { inner = record { h = g; buf = replicate 64 0; len = 64; blocks = 1 }; outer = h; blocks = plus n 1 })
       (mac_after H k [])
   unfolding mac_after inner
-  begin_law k kb ip op u v g h n c ek en ei eo eu eg ev eh ec =
+  begin_law k kb ip op u v g h n ek en ei eo eu eg ev eh =
       let fi : ip ≡ xored 0x36 (key_block_of H k) = ei ∙ ap (xored 0x36) ek in
       let fo : op ≡ xored 0x5c (key_block_of H k) = eo ∙ ap (xored 0x5c) ek in
       let ni : length ip ≡ 64 = ap length fi ∙ mask_size 0x36 k in
@@ -77,8 +78,7 @@ module _ {C : Type 0} (H : Hash C) (ok : Sized H) where
       let a = after_block ip g ni (one_block H.first u g ip ni eu eg) ∙ ap (after H) (fi ∙ sym (append-nil _)) in
       let b : h ≡ runs H.compress 1 H.first (xored 0x5c (key_block_of H k)) =
       one_block H.first v h op no ev eh ∙ ap (runs H.compress 1 H.first) fo in
-      let d : c ≡ plus (key_blocks_of H k) 1 = ec ∙ ap (λ (i : ℕ). plus i 1) en in
-      λ i. record { inner = a i; outer = b i; blocks = d i }
+      λ i. record { inner = a i; outer = b i; blocks = plus (en i) 1 }
 
   -- the outer hash's last block behind its chaining value h
   abbrev last : C → List ℕ → List ℕ
@@ -159,14 +159,14 @@ module _ {C : Type 0} (H : Hash C) (ok : Sized H) where
   mac_absorb_law st s x e = λ i. record { inner = e i; outer = st.outer; blocks = st.blocks }
 
   -- the end of a state: the inner code in the outer hash's last block
-  pub mac_close_law : (st : MacState C) (d l : List ℕ) (h : C) (i n k : ℕ) → d ≡ digest_of H st.inner → i ≡ count_of st.inner
-      → l ≡ d ++ pad (64 + H.size) → n ≡ plus st.blocks i → h ≡ runs H.compress (length l / 64) st.outer l → k ≡ plus n 1
-      → (H.code h ≡ mac_digest H st) × (k ≡ mac_count st)
+  pub mac_close_law : (st : MacState C) (d l x : List ℕ) (h : C) (i : ℕ)
+      → ◌≡◌ {A = List ℕ × ℕ} (d, i) (digest_of H st.inner, count_of st.inner)
+      → l ≡ d ++ pad (64 + H.size) → h ≡ runs H.compress (length l / 64) st.outer l → x ≡ H.code h
+      → ◌≡◌ {A = List ℕ × ℕ} (x, plus (plus st.blocks i) 1) (mac_digest H st, mac_count st)
   unfolding mac_digest mac_count
-  mac_close_law st d l h i n k p q el en eh ek =
-      let f : l ≡ digest_of H st.inner ++ pad (64 + H.size) = el ∙ ap (λ (t : List ℕ). t ++ pad (64 + H.size)) p in
+  mac_close_law st d l x h i p el eh ex =
+      let f : l ≡ digest_of H st.inner ++ pad (64 + H.size) = el ∙ ap (λ (t : List ℕ × ℕ). t.0 ++ pad (64 + H.size)) p in
       let m : length l / 64 ≡ 1 =
-      ap (λ (t : List ℕ). length t / 64) f ∙ last_one (digest_of H st.inner) H.size (digest_of-length st.inner) ok.short in (
-        ap H.code (eh ∙ ap₂ (λ (j : ℕ) (t : List ℕ). runs H.compress j st.outer t) m f),
-        ek ∙ ap (λ (t : ℕ). plus t 1) (en ∙ ap (plus st.blocks) q),
-      )
+      ap (λ (t : List ℕ). length t / 64) f ∙ last_one (digest_of H st.inner) H.size (digest_of-length st.inner) ok.short in
+      coded (ex ∙ ap H.code (eh ∙ ap₂ (λ (j : ℕ) (t : List ℕ). runs H.compress j st.outer t) m f))
+      (ap (λ (t : List ℕ × ℕ). plus (plus st.blocks t.1) 1) p)

@@ -4,41 +4,50 @@ use native.Mathlib.Omega.{arith}
 use lib.Dec.{leb}
 use borrow.Author.Tests.{leb-true, leb-false, le-leb, lt-leb}
 use mathlib.Core.Bool.{Bool, true, false, ◌&&◌}
-use mathlib.Core.Path.{◌≡◌, refl, sym, ◌∙◌}
-use Rattle.refusal.specs.Order.{Res, refuse, accept, need}
+use mathlib.Core.List.{List}
+use mathlib.Core.Path.{◌≡◌, refl, sym, ◌∙◌, ap}
+use Rattle.refusal.specs.Order.{Res, refuse, accept}
+use Rattle.refusal.proofs.Order.{refuse≢accept, accept_inj, pass, need_no, need_inv}
 use Rattle.running.specs.Promise.{Answer}
 
-module _ {A : Type 0} {x y v : A} {n k : ℕ} {t : Res Unit} where
+module _ {A : Type 0} {ok : Bool} {a : A} where
   -- what a call that was taken says
-  pub yes : Answer true x y n t v k → (t ≡ accept tt) × (v ≡ x) × (k ≡ n)
-  unfolding need
-  yes p = (p.answer, p.value, p.blocks)
+  pub yes : {r : Res A} → Answer ok a r → ok ≡ true → r ≡ accept a
+  yes p o = p.answer ∙ pass ok 37 0 (accept a) o refl
 
   -- what a refused call says
-  pub no : Answer false x y n t v k → (t ≡ refuse 37 0) × (v ≡ y) × (k ≡ 0)
-  unfolding need
-  no p = (p.answer, p.value, p.blocks)
+  pub no : {r : Res A} → Answer ok a r → ok ≡ false → r ≡ refuse 37 0
+  no p o = p.answer ∙ need_no ok 37 0 (accept a) o
 
-  pub say_yes : {ok : Bool} → ok ≡ true → t ≡ accept tt → v ≡ x → k ≡ n → Answer ok x y n t v k
-  unfolding need
-  say_yes o a b c = rw o (record { answer = a; value = b; blocks = c })
+  pub say_yes : {r : Res A} → ok ≡ true → r ≡ accept a → Answer ok a r
+  say_yes o e = record { answer = e ∙ sym (pass ok 37 0 (accept a) o refl) }
 
-  pub say_no : {ok : Bool} → ok ≡ false → t ≡ refuse 37 0 → v ≡ y → k ≡ 0 → Answer ok x y n t v k
-  unfolding need
-  say_no o a b c = rw o (record { answer = a; value = b; blocks = c })
+  pub say_no : {r : Res A} → ok ≡ false → r ≡ refuse 37 0 → Answer ok a r
+  say_no o e = record { answer = e ∙ sym (need_no ok 37 0 (accept a) o) }
 
--- the same, said otherwise
-module _ {A : Type 0} {ok : Bool} {x y v : A} {n k : ℕ} {t : Res Unit} where
-  pub as_yes : Answer true x y n t v k → ok ≡ true → (z w : A) (c : ℕ) → x ≡ z → n ≡ c → Answer ok z w c t v k
-  as_yes p o z w c f g = let q = yes p in say_yes o q.0 (q.1 ∙ f) (q.2 ∙ g)
+  -- a call that gives something was taken
+  pub gives : {b : A} → Answer ok a (accept b) → (ok ≡ true) × (b ≡ a)
+  gives p = let q = need_inv ok 37 0 (accept a) (sym p.answer) in (q.0, sym (accept_inj a _ q.1))
 
-  pub as_no : Answer false x y n t v k → ok ≡ false → (z w : A) (c : ℕ) → y ≡ w → Answer ok z w c t v k
-  as_no p o z w c f = let q = no p in say_no o q.0 (q.1 ∙ f) q.2
+  -- a call that refuses was not
+  pub refuses : {n v : ℕ} → Answer ok a (refuse n v) → ok ≡ false
+  refuses p = by ok refl
+    where
+      by : (t : Bool) → ok ≡ t → ok ≡ false
+      by true e = absurd (refuse≢accept _ _ a (yes p e))
+      by false e = e
+
+-- a call that tests a bound
+module _ {A : Type 0} {a : A} where
+  pub within : {n k : ℕ} {b : A} → n ≤ k → b ≡ a → Answer (leb n k) a (accept b)
+  within {n} {k} l e = say_yes (le-leb n k l) (ap accept e)
+
+  pub past : {n k : ℕ} → k < n → Answer (leb n k) a (refuse 37 0)
+  past {n} {k} l = say_no (lt-leb n k l) refl
 
 -- no second answer
-pub only : {A : Type 0} {ok : Bool} {x y v w : A} {n k l : ℕ} {t u : Res Unit} → Answer ok x y n t v k → Answer ok x y n u w l
-    → (t ≡ u) × (v ≡ w) × (k ≡ l)
-only p q = (p.answer ∙ sym q.answer, p.value ∙ sym q.value, p.blocks ∙ sym q.blocks)
+pub only : {A : Type 0} {ok : Bool} {a : A} {r s : Res A} → Answer ok a r → Answer ok a s → r ≡ s
+only p q = p.answer ∙ sym q.answer
 
 -- a bound on a sum, tested without the sum
 pub within_law : (a n k : ℕ) → n ≤ k → leb a (k - n) ≡ leb (a + n) k
@@ -58,3 +67,10 @@ second_no false b e = refl
 
 pub both : (a b : Bool) → a ≡ true → b ≡ true → (a && b) ≡ true
 both a b e f = rw (e, f)
+
+-- a code and its blocks
+pub coded : {d e : List ℕ} {n k : ℕ} → d ≡ e → n ≡ k → ◌≡◌ {A = List ℕ × ℕ} (d, n) (e, k)
+coded f g = λ i. (f i, g i)
+
+pub gives_code : {ok : Bool} {d e : List ℕ} {n k : ℕ} → Answer {A = List ℕ × ℕ} ok (d, n) (accept (e, k)) → (ok ≡ true) × (e ≡ d) × (k ≡ n)
+gives_code p = let q = gives p in (q.0, (λ i. (q.1 i).0), (λ i. (q.1 i).1))

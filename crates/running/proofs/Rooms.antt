@@ -5,7 +5,7 @@ use mathlib.Core.Bool.{Bool}
 use mathlib.Core.Path.{◌≡◌, refl, sym, ◌∙◌, ap}
 use mathlib.Core.List.{List, ◌∷◌, ◌++◌}
 use lib.ListN.{length, take, replicate, length-append, length-replicate}
-use lib.Seq.{take_at, take-append-add, length-take-le}
+use lib.Seq.{take_at, take-append-add}
 use Rattle.std.proofs.lemmas.List.{drop-replicate}
 use Rattle.octets.specs.Place.{filled, pasted, begun}
 use Rattle.octets.specs.Promise.{PutPromise}
@@ -46,13 +46,12 @@ unfolding begun filled
 begun_zeros n s = ap (λ (t : List ℕ). s ++ t) (drop-replicate (length s) n 0)
 
 -- two pieces put into zeros, one behind the other
-pub fill_block_law : (buf s x y : List ℕ) (n : ℕ) (a b : Bool) → length buf ≡ 64 → n + length s ≤ 64
-    → PutPromise (replicate 64 0) 0 (take n buf) a x → PutPromise x n s b y → y ≡ room (take n buf ++ s)
-fill_block_law buf s x y n a b l h p q =
-    let k : length (take n buf) ≡ n = length-take-le n buf (omega arith) in
-    let e : x ≡ room (take n buf) = put_filled 64 (take n buf) a x p (omega arith) in
-    let w : length x ≡ 64 = ap length e ∙ length_room (take n buf) (omega arith) in
-    put_done x n s b y q (omega arith)
-    ∙ ap (λ (t : List ℕ). pasted t n s) (e ∙ sym (begun_zeros 64 (take n buf)))
-    ∙ begun_put (take n buf) (replicate 64 0) s n k
-    ∙ begun_zeros 64 (take n buf ++ s)
+pub fill_block_law : (w s x y : List ℕ) (a b : Bool) → length w + length s ≤ 64
+    → PutPromise (replicate 64 0) 0 w a x → PutPromise x (length w) s b y → y ≡ room (w ++ s)
+fill_block_law w s x y a b h p q =
+    let e : x ≡ room w = put_filled 64 w a x p (omega arith) in
+    let n : length x ≡ 64 = ap length e ∙ length_room w (omega arith) in
+    put_done x (length w) s b y q (omega arith)
+    ∙ ap (λ (t : List ℕ). pasted t (length w) s) (e ∙ sym (begun_zeros 64 w))
+    ∙ begun_put w (replicate 64 0) s (length w) refl
+    ∙ begun_zeros 64 (w ++ s)

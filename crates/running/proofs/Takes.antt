@@ -27,41 +27,39 @@ module _ {C : Type 0} (H : Hash C) where
       (λ i g. rw g (λ j. record { h = eh j; buf = eb j; len = el j; blocks = ek j })) in
       f (length l / 64) e
 
-  pub append_law : (st : State C) (s b : List ℕ) (len : ℕ) → length st.buf ≡ 64 → st.blocks < 2 ^ 32 → st.len % 64 + length s < 64
-      → b ≡ room (take (st.len % 64) st.buf ++ s) → len ≡ plus st.len (length s)
-      → ◌≡◌ {A = State C} (record { h = st.h; buf = b; len = len; blocks = st.blocks }) (taken H st s)
+  pub append_law : (st : State C) (s b : List ℕ) → length st.buf ≡ 64 → st.blocks < 2 ^ 32 → st.len % 64 + length s < 64
+      → b ≡ room (take (st.len % 64) st.buf ++ s)
+      → ◌≡◌ {A = State C} (record { h = st.h; buf = b; len = plus st.len (length s); blocks = st.blocks }) (taken H st s)
   unfolding taken pending runs
-  append_law st s b len e k l eb el =
+  append_law st s b e k l eb =
       let n : length (take (st.len % 64) st.buf ++ s) ≡ st.len % 64 + length s =
       length-append (take (st.len % 64) st.buf) s ∙ rw (length-take-le (st.len % 64) st.buf (omega arith)) in
-      absorb_is st (length s) 0 (take (st.len % 64) st.buf ++ s) st.h b len st.blocks (rw n (omega arith)) refl eb el (omega arith)
+      absorb_is st (length s) 0 (take (st.len % 64) st.buf ++ s) st.h b _ st.blocks (rw n (omega arith)) refl eb refl (omega arith)
 
-  pub complete_block_law : (st : State C) (s b : List ℕ) (h : C) (len k : ℕ) → length st.buf ≡ 64 → st.len % 64 + length s ≡ 64
-      → b ≡ room (take (st.len % 64) st.buf ++ s) → h ≡ runs H.compress (length b / 64) st.h b → len ≡ plus st.len (length s)
-      → k ≡ plus st.blocks 1
-      → ◌≡◌ {A = State C} (record { h = h; buf = replicate 64 0; len = len; blocks = k }) (taken H st s)
+  pub complete_block_law : (st : State C) (s b : List ℕ) (h : C) → length st.buf ≡ 64 → st.len % 64 + length s ≡ 64
+      → b ≡ room (take (st.len % 64) st.buf ++ s) → h ≡ runs H.compress (length b / 64) st.h b
+      → ◌≡◌ {A = State C} (record { h = h; buf = replicate 64 0; len = plus st.len (length s); blocks = plus st.blocks 1 }) (taken H st s)
   unfolding taken pending filled
-  complete_block_law st s b h len k e l eb eh el ek =
+  complete_block_law st s b h e l eb eh =
       let p : List ℕ = take (st.len % 64) st.buf ++ s in
       let n : length p ≡ 64 =
       length-append (take (st.len % 64) st.buf) s ∙ rw (length-take-le (st.len % 64) st.buf (omega arith)) l in
       let f : b ≡ p = eb ∙ room_full p n in
       let m : length b / 64 ≡ 1 = rw (f, n) refl in
       let d : replicate 64 0 ≡ room (drop 64 p) = sym (ap room (drop_all p n)) in
-      absorb_is st (length s) 1 p h (replicate 64 0) len k (rw n refl) (eh ∙ ap₂ (λ (i : ℕ) (x : List ℕ). runs H.compress i st.h x) m f) d el ek
+      absorb_is st (length s) 1 p h (replicate 64 0) _ _ (rw n refl) (eh ∙ ap₂ (λ (i : ℕ) (x : List ℕ). runs H.compress i st.h x) m f) d refl refl
     where
       drop_all : (p : List ℕ) → length p ≡ 64 → drop 64 p ≡ []
       drop_all p e = ap (λ (i : ℕ). drop i p) (sym e) ∙ lib.Seq.drop-length p
 
-  pub absorb_blocks_law : (st : State C) (s b : List ℕ) (h : C) (len k : ℕ) → st.len % 64 ≡ 0
-      → b ≡ room (take 0 (replicate 64 0) ++ take (length s - length s / 64 * 64) (drop (length s / 64 * 64) s))
-      → h ≡ runs H.compress (length s / 64) st.h s → len ≡ plus st.len (length s) → k ≡ plus st.blocks (length s / 64)
-      → ◌≡◌ {A = State C} (record { h = h; buf = b; len = len; blocks = k }) (taken H st s)
+  pub absorb_blocks_law : (st : State C) (s b : List ℕ) (h : C) → st.len % 64 ≡ 0
+      → b ≡ room (take (length s - length s / 64 * 64) (drop (length s / 64 * 64) s)) → h ≡ runs H.compress (length s / 64) st.h s
+      → ◌≡◌ {A = State C} (record { h = h; buf = b; len = plus st.len (length s); blocks = plus st.blocks (length s / 64) }) (taken H st s)
   unfolding taken pending
-  absorb_blocks_law st s b h len k z eb eh el ek =
+  absorb_blocks_law st s b h z eb eh =
       let t : take (length s - length s / 64 * 64) (drop (length s / 64 * 64) s) ≡ drop (length s / 64 * 64) s =
       take_all (length s - length s / 64 * 64) (drop (length s / 64 * 64) s) (rw (length-drop (length s / 64 * 64) s) (omega arith)) in
-      rw z (absorb_is st (length s) (length s / 64) s h b len k refl eh (eb ∙ ap room t) el ek)
+      rw z (absorb_is st (length s) (length s / 64) s h b _ _ refl eh (eb ∙ ap room t) refl refl)
 
   -- what a buffer's state has waiting
   pub waits : (h : C) (p : List ℕ) (len k : ℕ) → len % 64 ≡ length p → pending (record { h = h; buf = room p; len = len; blocks = k }) ≡ p

@@ -1,6 +1,6 @@
 -- The running HMAC (docs/RULES.md, 3.4, 3.8 and 3.9): the inner hash of RFC 2104, section 2, the outer one after its key block,
 -- and the blocks compressed for the key and that block.
-use Rattle.std.specs.Prelude.{ℕ, ◌+◌, List, ◌++◌, replicate}
+use Rattle.std.specs.Prelude.{ℕ, ◌+◌, List, ◌++◌}
 use Rattle.hmac.specs.Hmac.{xored, key_block, inner, hmac}
 use Rattle.hmac.specs.Count.{key_count, hmac_count}
 use Rattle.running.specs.Hash.{Hash, plus, runs, pad, block_count, digest}
@@ -51,12 +51,3 @@ module _ {C : Type 0} (H : Hash C) where
   -- the outer hash's last block is the inner code with the padding of a block and a code
   unfoldable pub mac_digest : MacState C → List ℕ
   mac_digest st = H.code (runs H.compress 1 st.outer (digest_of H st.inner ++ pad (64 + H.size)))
-
-  -- what stands beside a refused key: a state that counts as too long, so that it takes no piece and gives no code
-  unfoldable pub spent : MacState C
-  spent =
-      record {
-        inner = record { h = H.first; buf = replicate 64 0; len = 0xffffffff; blocks = 0 };
-        outer = H.first;
-        blocks = 0;
-      }

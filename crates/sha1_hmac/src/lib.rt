@@ -1,23 +1,22 @@
 // SHA-1 (FIPS 180-4) as a running value: bytes go in, the new hash comes back.
 #![tactic(auto)]
 
-ghost use Rattle.std.specs.Prelude.{◌≡◌, ◌+◌, ◌*◌, ◌%◌, ◌<◌, ◌≤◌, true, false, [], ◌++◌, length, take, nat_le};
+ghost use Rattle.std.specs.Prelude.{◌≡◌, ◌+◌, ◌*◌, ◌%◌, ◌<◌, ◌≤◌, [], ◌++◌, length, nat_le};
 ghost use Rattle.octets.specs.Number.{be};
 ghost use Rattle.octets.specs.Place.{pasted};
 ghost use Rattle.sha1_block.specs.Block.{sha1_hash};
 ghost use Rattle.running.specs.Running.{room, taken, digest_of, count_of, after};
 ghost use Rattle.running.specs.Promise.{inner_limit};
-ghost use Rattle.sha1_hmac.specs.View.{state_of};
-ghost use Rattle.sha1_hmac.specs.Answers.{FedPromise, EndPromise, HashPromise, HashedPromise};
+ghost use Rattle.sha1_hmac.specs.View.{state_of, hashed_of};
+ghost use Rattle.sha1_hmac.specs.Answers.{FedPromise, EndPromise, HashPromise};
 
-use octets::{be8, put};
-use refusal::{Outcome, Refusal};
+use octets::put;
+use refusal::Refusal;
 use sha1_block::{Chain, blocks, bytes, start};
-use std::num::wrapping_add_u32;
 
 pub mod mac;
 
-pub use mac::{MacFed, Sha1Hmac, hmac};
+pub use mac::{Sha1Hmac, hmac};
 
 // More bytes than this, all pieces together, are refused.
 pub const LIMIT: usize = 1048576;
@@ -31,69 +30,37 @@ pub struct Sha1 {
     blocks: u32,
 }
 
-// What a piece leaves: the next hash, or the hash as it was beside a refusal.
-#[derive(Clone, Copy)]
-pub struct Fed {
-    pub answer: Outcome,
-    pub hash: Sha1,
-    pub blocks: u32,
-}
-
+// A code, and the blocks compressed for it.
 #[derive(Clone, Copy)]
 pub struct Hashed {
-    pub answer: Outcome,
     pub digest: [u8; 20],
     pub blocks: u32,
 }
 
-// The first n bytes of `buf`, then s, then zeros.
-fn fill_block(buf: [u8; 64], n: usize, s: &[u8]) -> [u8; 64]
-    requires { n + length s.now ≤ 64 }
-    ensures { result ≡ room (take n buf ++ s.now) }
+// The bytes that wait, then s, then zeros.
+fn fill_block(waiting: &[u8], s: &[u8]) -> [u8; 64]
+    requires { length waiting.now + length s.now ≤ 64 }
+    ensures { result ≡ room (waiting.now ++ s.now) }
 {
     let mut b = [0u8; 64];
-    put(&mut b, 0, &buf[..n]);
-    put(&mut b, n, s);
+    put(&mut b, 0, waiting);
+    put(&mut b, waiting.len(), s);
     b
 }
 
 // b with the number of bits of `len` bytes in its last eight.
-fn put_length(b: [u8; 64], len: u32) -> [u8; 64]
+fn put_length(mut b: [u8; 64], len: u32) -> [u8; 64]
     ensures { result ≡ pasted b 56 (be 8 (len * 8)) }
 {
-    let mut r = b;
-    put(&mut r, 56, &be8((len as u64) * 8));
-    r
+    put(&mut b, 56, &octets::be::<8>(u64::from(len) * 8));
+    b
 }
 
 // Whether n bytes more than `len` are at most `most`.
 fn fits_limit(len: u32, n: usize, most: usize) -> bool
     ensures { result ≡ nat_le (len + n) most }
 {
-    if most < n {
-        return false;
-    }
-    (len as usize) <= most - n
-}
-
-fn give_code(h: Chain, blocks: u32) -> Hashed
-    ensures { HashedPromise true (sha1_hash.code h) blocks result }
-{
-    Hashed {
-        answer: Outcome::Done,
-        digest: bytes(h),
-        blocks,
-    }
-}
-
-fn refuse_code() -> Hashed
-    ensures { HashedPromise false [] 0 result }
-{
-    Hashed {
-        answer: Outcome::Refused(Refusal::TooLongToHash),
-        digest: [0u8; 20],
-        blocks: 0,
-    }
+    n <= most && (len as usize) <= most - n
 }
 
 impl Sha1 {
@@ -109,33 +76,31 @@ impl Sha1 {
         }
     }
 
-    // The hash after s, or refusal 37 and the hash as it was.
-    pub fn update(self, s: &[u8]) -> Fed
+    // The hash after s, or refusal 37.
+    pub fn update(self, s: &[u8]) -> Result<Sha1, Refusal>
         ensures { FedPromise self s.now result }
     {
         if !fits_limit(self.len, s.len(), LIMIT) {
-            return Fed {
-                answer: Outcome::Refused(Refusal::TooLongToHash),
-                hash: self,
-                blocks: 0,
-            };
+            return Err(Refusal::TooLongToHash);
         }
-        let next = self.absorb(s);
-        Fed {
-            answer: Outcome::Done,
-            hash: next,
-            blocks: next.blocks,
-        }
+        Ok(self.absorb(s))
     }
 
     // The hash's twenty bytes; 37 for a state that says it was given too much.
-    pub fn finalize(self) -> Hashed
+    pub fn finalize(self) -> Result<Hashed, Refusal>
         ensures { EndPromise self result }
     {
         if LIMIT < self.len as usize {
-            return refuse_code();
+            return Err(Refusal::TooLongToHash);
         }
-        self.close()
+        Ok(self.close())
+    }
+
+    // The blocks compressed so far.
+    pub fn blocks(self) -> u32
+        ensures { result ≡ (state_of self).blocks }
+    {
+        self.blocks
     }
 
     // s behind bytes that wait, where no block becomes full.
@@ -143,14 +108,11 @@ impl Sha1 {
         requires { self.len % 64 + length s.now < 64 }
         ensures { state_of result ≡ taken sha1_hash (state_of self) s.now }
     {
-        let buf = self.buf;
-        let b = fill_block(buf, (self.len % 64) as usize, s);
-        let h = self.h;
+        let fill = (self.len % 64) as usize;
         Sha1 {
-            h,
-            buf: b,
-            len: wrapping_add_u32(self.len, s.len() as u32),
-            blocks: self.blocks,
+            buf: fill_block(&self.buf[..fill], s),
+            len: self.len.wrapping_add(s.len() as u32),
+            ..self
         }
     }
 
@@ -159,13 +121,13 @@ impl Sha1 {
         requires { self.len % 64 + length s.now ≡ 64 }
         ensures { state_of result ≡ taken sha1_hash (state_of self) s.now }
     {
-        let buf = self.buf;
-        let b = fill_block(buf, (self.len % 64) as usize, s);
+        let fill = (self.len % 64) as usize;
+        let b = fill_block(&self.buf[..fill], s);
         Sha1 {
             h: blocks(self.h, &b),
             buf: [0u8; 64],
-            len: wrapping_add_u32(self.len, s.len() as u32),
-            blocks: wrapping_add_u32(self.blocks, 1),
+            len: self.len.wrapping_add(s.len() as u32),
+            blocks: self.blocks.wrapping_add(1),
         }
     }
 
@@ -175,12 +137,11 @@ impl Sha1 {
         ensures { state_of result ≡ taken sha1_hash (state_of self) s.now }
     {
         let n = s.len() / 64;
-        let b = fill_block([0u8; 64], 0, &s[n * 64..]);
         Sha1 {
             h: blocks(self.h, s),
-            buf: b,
-            len: wrapping_add_u32(self.len, s.len() as u32),
-            blocks: wrapping_add_u32(self.blocks, n as u32),
+            buf: fill_block(&[], &s[n * 64..]),
+            len: self.len.wrapping_add(s.len() as u32),
+            blocks: self.blocks.wrapping_add(n as u32),
         }
     }
 
@@ -202,27 +163,33 @@ impl Sha1 {
 
     // The hash's end: padding and length go in.
     fn close(self) -> Hashed
-        ensures { HashedPromise true (digest_of sha1_hash (state_of self)) (count_of (state_of self)) result }
+        ensures { hashed_of result ≡ (digest_of sha1_hash (state_of self), count_of (state_of self)) }
     {
         let fill = (self.len % 64) as usize;
-        let buf = self.buf;
-        let marked = fill_block(buf, fill, &[0x80]);
+        let marked = fill_block(&self.buf[..fill], &[0x80]);
         if fill < 56 {
             let last = put_length(marked, self.len);
-            return give_code(blocks(self.h, &last), wrapping_add_u32(self.blocks, 1));
+            let count = self.blocks.wrapping_add(1);
+            return Hashed {
+                digest: bytes(blocks(self.h, &last)),
+                blocks: count,
+            };
         }
         let h = blocks(self.h, &marked);
         let last = put_length([0u8; 64], self.len);
-        give_code(blocks(h, &last), wrapping_add_u32(self.blocks, 2))
+        Hashed {
+            digest: bytes(blocks(h, &last)),
+            blocks: self.blocks.wrapping_add(2),
+        }
     }
 }
 
 // SHA-1 of s in one call.
-pub fn hash(s: &[u8]) -> Hashed
+pub fn hash(s: &[u8]) -> Result<Hashed, Refusal>
     ensures { HashPromise s.now result }
 {
     if LIMIT < s.len() {
-        return refuse_code();
+        return Err(Refusal::TooLongToHash);
     }
-    Sha1::new().absorb(s).close()
+    Ok(Sha1::new().absorb(s).close())
 }

@@ -1,18 +1,17 @@
 // HMAC-SHA1 (RFC 2104) as a running value.
-ghost use Rattle.std.specs.Prelude.{◌≡◌, ◌+◌, ◌≤◌, true, false, [], ◌++◌, length};
+ghost use Rattle.std.specs.Prelude.{◌≡◌, ◌+◌, ◌≤◌, [], ◌++◌, length};
 ghost use Rattle.hmac.specs.Hmac.{xored};
 ghost use Rattle.sha1_block.specs.Block.{sha1_hash};
 ghost use Rattle.running.specs.Hash.{pad};
-ghost use Rattle.running.specs.Mac.{key_block_of, key_blocks_of, mac_after, mac_taken, mac_digest, mac_count, spent};
+ghost use Rattle.running.specs.Mac.{key_block_of, key_blocks_of, mac_after, mac_taken, mac_running, mac_digest, mac_count};
 ghost use Rattle.running.specs.Promise.{limit, inner_limit};
-ghost use Rattle.sha1_hmac.specs.View.{mac_state_of};
-ghost use Rattle.sha1_hmac.specs.Answers.{BegunPromise, MacFedPromise, MacEndPromise, HmacPromise, MacPromise, HashedPromise};
+ghost use Rattle.sha1_hmac.specs.View.{mac_state_of, hashed_of};
+ghost use Rattle.sha1_hmac.specs.Answers.{BegunPromise, MacFedPromise, MacEndPromise, HmacPromise};
 
 use crate::{Hashed, LIMIT, Sha1};
 use octets::put;
-use refusal::{Outcome, Refusal};
-use sha1_block::{Chain, blocks, start};
-use std::num::wrapping_add_u32;
+use refusal::Refusal;
+use sha1_block::{Chain, blocks, bytes, start};
 
 // The inner hash is given the key's block besides the message.
 const INNER_LIMIT: usize = LIMIT + 64;
@@ -23,14 +22,6 @@ pub struct Sha1Hmac {
     inner: Sha1,
     outer: Chain,
     blocks: u32,
-}
-
-// What a key or a piece leaves; `blocks` tells those compressed so far.
-#[derive(Clone, Copy)]
-pub struct MacFed {
-    pub answer: Outcome,
-    pub mac: Sha1Hmac,
-    pub blocks: u32,
 }
 
 // A key as one block, and the blocks compressed to make it.
@@ -47,29 +38,25 @@ fn make_key_block(key: &[u8]) -> KeyBlock
 {
     if key.len() <= 64 {
         return KeyBlock {
-            block: crate::fill_block([0u8; 64], 0, key),
+            block: crate::fill_block(&[], key),
             blocks: 0,
         };
     }
     let short = Sha1::new().absorb(key).close();
-    let digest = short.digest;
     KeyBlock {
-        block: crate::fill_block([0u8; 64], 0, &digest),
+        block: crate::fill_block(&[], &short.digest),
         blocks: short.blocks,
     }
 }
 
 // Each byte of a block xored with x.
-fn mask_block(block: [u8; 64], x: u8) -> [u8; 64]
+fn mask_block(mut block: [u8; 64], x: u8) -> [u8; 64]
     ensures { result ≡ xored x block }
 {
-    let mut b = block;
-    let mut i: usize = 0;
-    while i < 64 {
-        b[i] = b[i] ^ x;
-        i += 1;
+    for b in &mut block {
+        *b ^= x;
     }
-    b
+    block
 }
 
 // The state that a key leaves.
@@ -78,9 +65,8 @@ fn begin(key: &[u8]) -> Sha1Hmac
     ensures { mac_state_of result ≡ mac_after sha1_hash key.now [] }
 {
     let k = make_key_block(key);
-    let block = k.block;
-    let ipad = mask_block(block, 0x36);
-    let opad = mask_block(block, 0x5c);
+    let ipad = mask_block(k.block, 0x36);
+    let opad = mask_block(k.block, 0x5c);
     let inner = Sha1 {
         h: blocks(start(), &ipad),
         buf: [0u8; 64],
@@ -90,7 +76,7 @@ fn begin(key: &[u8]) -> Sha1Hmac
     Sha1Hmac {
         inner,
         outer: blocks(start(), &opad),
-        blocks: wrapping_add_u32(k.blocks, 1),
+        blocks: k.blocks.wrapping_add(1),
     }
 }
 
@@ -106,77 +92,42 @@ fn make_last_block(digest: [u8; 20]) -> [u8; 64]
     tail
 }
 
-// A state that takes no piece and gives no code; it stands beside a refused key.
-fn make_spent() -> Sha1Hmac
-    ensures { mac_state_of result ≡ spent sha1_hash }
-{
-    let inner = Sha1 {
-        h: start(),
-        buf: [0u8; 64],
-        len: 0xffffffff,
-        blocks: 0,
-    };
-    Sha1Hmac {
-        inner,
-        outer: start(),
-        blocks: 0,
-    }
-}
-
-// The answer beside a state that was taken on, with the blocks compressed so far.
-fn accept(mac: Sha1Hmac) -> MacFed
-    ensures { MacPromise true (mac_state_of mac) (mac_state_of mac) result }
-{
-    let inner = mac.inner;
-    MacFed {
-        answer: Outcome::Done,
-        mac,
-        blocks: wrapping_add_u32(mac.blocks, inner.blocks),
-    }
-}
-
-// Refusal 37 beside the state that stays.
-fn refuse(mac: Sha1Hmac) -> MacFed
-    ensures { MacPromise false (mac_state_of mac) (mac_state_of mac) result }
-{
-    MacFed {
-        answer: Outcome::Refused(Refusal::TooLongToHash),
-        mac,
-        blocks: 0,
-    }
-}
-
 impl Sha1Hmac {
-    // HMAC under a key, before any byte of the message.
-    pub fn new(key: &[u8]) -> MacFed
+    // HMAC under a key, before any byte of the message; 37 for a key that is too long.
+    pub fn new(key: &[u8]) -> Result<Sha1Hmac, Refusal>
         ensures { BegunPromise key.now result }
     {
         if LIMIT < key.len() {
-            return refuse(make_spent());
+            return Err(Refusal::TooLongToHash);
         }
-        accept(begin(key))
+        Ok(begin(key))
     }
 
-    // HMAC after the piece s, or refusal 37 and the state as it was.
-    pub fn feed(self, s: &[u8]) -> MacFed
+    // HMAC after the piece s, or refusal 37.
+    pub fn feed(self, s: &[u8]) -> Result<Sha1Hmac, Refusal>
         ensures { MacFedPromise self s.now result }
     {
-        let inner = self.inner;
-        if !crate::fits_limit(inner.len, s.len(), INNER_LIMIT) {
-            return refuse(self);
+        if !crate::fits_limit(self.inner.len, s.len(), INNER_LIMIT) {
+            return Err(Refusal::TooLongToHash);
         }
-        accept(self.absorb(s))
+        Ok(self.absorb(s))
     }
 
     // The code; 37 for a state that says it was given too much.
-    pub fn finalize(self) -> Hashed
+    pub fn finalize(self) -> Result<Hashed, Refusal>
         ensures { MacEndPromise self result }
     {
-        let inner = self.inner;
-        if INNER_LIMIT < inner.len as usize {
-            return crate::refuse_code();
+        if INNER_LIMIT < self.inner.len as usize {
+            return Err(Refusal::TooLongToHash);
         }
-        self.close()
+        Ok(self.close())
+    }
+
+    // The blocks compressed so far, those of the key among them.
+    pub fn blocks(self) -> u32
+        ensures { result ≡ mac_running (mac_state_of self) }
+    {
+        self.blocks.wrapping_add(self.inner.blocks)
     }
 
     // HMAC after the piece s, which the limit lets in.
@@ -184,38 +135,31 @@ impl Sha1Hmac {
         requires { length s.now ≤ inner_limit }
         ensures { mac_state_of result ≡ mac_taken sha1_hash (mac_state_of self) s.now }
     {
-        let inner = self.inner;
-        let outer = self.outer;
         Sha1Hmac {
-            inner: inner.absorb(s),
-            outer,
-            blocks: self.blocks,
+            inner: self.inner.absorb(s),
+            ..self
         }
     }
 
     // The code: the inner one in the outer hash's last block.
     fn close(self) -> Hashed
-        ensures { HashedPromise true (mac_digest sha1_hash (mac_state_of self)) (mac_count (mac_state_of self)) result }
+        ensures { hashed_of result ≡ (mac_digest sha1_hash (mac_state_of self), mac_count (mac_state_of self)) }
     {
-        let inner = self.inner;
-        let outer = self.outer;
-        let code = inner.close();
-        let digest = code.digest;
-        let last = make_last_block(digest);
-        let n = wrapping_add_u32(self.blocks, code.blocks);
-        crate::give_code(blocks(outer, &last), wrapping_add_u32(n, 1))
+        let code = self.inner.close();
+        let last = make_last_block(code.digest);
+        Hashed {
+            digest: bytes(blocks(self.outer, &last)),
+            blocks: self.blocks.wrapping_add(code.blocks).wrapping_add(1),
+        }
     }
 }
 
 // HMAC-SHA1 of s under a key in one call.
-pub fn hmac(key: &[u8], s: &[u8]) -> Hashed
+pub fn hmac(key: &[u8], s: &[u8]) -> Result<Hashed, Refusal>
     ensures { HmacPromise key.now s.now result }
 {
-    if LIMIT < key.len() {
-        return crate::refuse_code();
+    if LIMIT < key.len() || LIMIT < s.len() {
+        return Err(Refusal::TooLongToHash);
     }
-    if LIMIT < s.len() {
-        return crate::refuse_code();
-    }
-    begin(key).absorb(s).close()
+    Ok(begin(key).absorb(s).close())
 }

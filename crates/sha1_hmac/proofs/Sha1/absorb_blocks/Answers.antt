@@ -8,6 +8,4 @@ use Rattle.sha1_hmac.proofs.Sha1.absorb_blocks.Goals as goal
 pub returns : goal.returns
 returns c =
     let a = c.args in
-    absorb_blocks_law sha1_hash (state_of a.self) a.s.now _ _ _ _ (omega arith)
-    c.fill_block-b.ensures c.blocks-2.ensures
-    c.wrapping_add_u32.ensures.value c.wrapping_add_u32-2.ensures.value
+    absorb_blocks_law sha1_hash (state_of a.self) a.s.now _ _ (omega arith) c.fill_block.ensures c.blocks-2.ensures

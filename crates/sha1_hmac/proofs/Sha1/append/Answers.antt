@@ -9,5 +9,4 @@ pub returns : goal.returns
 returns c =
     let a = c.args in
     let l : length a.self.buf ≡ 64 = search rules in
-    append_law sha1_hash (state_of a.self) a.s.now _ _ l (omega arith) (omega arith)
-    c.fill_block-b.ensures c.wrapping_add_u32.ensures.value
+    append_law sha1_hash (state_of a.self) a.s.now _ l (omega arith) (omega arith) c.fill_block.ensures

@@ -9,5 +9,4 @@ pub returns : goal.returns
 returns c =
     let a = c.args in
     let l : length a.self.buf ≡ 64 = search rules in
-    complete_block_law sha1_hash (state_of a.self) a.s.now _ _ _ _ l (omega arith) c.fill_block-b.ensures
-    c.blocks-2.ensures c.wrapping_add_u32.ensures.value c.wrapping_add_u32-2.ensures.value
+    complete_block_law sha1_hash (state_of a.self) a.s.now _ _ l (omega arith) c.fill_block-b.ensures c.blocks-2.ensures

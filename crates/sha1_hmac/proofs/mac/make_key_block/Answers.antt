@@ -2,7 +2,6 @@
 use Rattle.std.proofs.Common.{arith}
 use Rattle.sha1_block.specs.Block.{sha1_hash}
 use Rattle.sha1_block.proofs.Laws.{sha1_sized}
-use Rattle.running.proofs.Promised.{yes}
 use Rattle.running.proofs.Macs.{key_block_short, key_block_long}
 use Rattle.sha1_hmac.proofs.mac.make_key_block.Goals as goal
 
@@ -11,6 +10,5 @@ returns-then-key-le64 c = key_block_short sha1_hash sha1_sized c.args.key.now _ 
 
 pub returns : goal.returns
 returns c =
-    let q = yes c.close-short.ensures in
-    key_block_long sha1_hash sha1_sized c.args.key.now _ _ _ _ _ (omega arith) (omega arith)
-    c.new.ensures c.absorb.ensures q.1 q.2 c.fill_block-2.ensures
+    key_block_long sha1_hash sha1_sized c.args.key.now _ _ _ _ _ (omega arith) (omega arith) c.new.ensures c.absorb.ensures
+    c.close-short.ensures c.fill_block-2.ensures

@@ -1,10 +1,7 @@
--- `mask_block` keeps its promise. Invariant: the first i bytes are xored.
-use Rattle.std.proofs.Common.{◌≡◌, ◌-◌, ◌≤◌, ◌++◌, length, take, drop}
+-- `mask_block` keeps its promise. Invariant: the bytes before the next one are xored.
+use Rattle.std.proofs.Common.{◌≡◌, ◌++◌, length, take, drop}
 use Rattle.hmac.specs.Hmac.{xored}
 use Rattle.sha1_hmac.proofs.mac.mask_block.Given as goal
 
-abbrev pub invariant-loop-i : goal.invariant-loop-i
-invariant-loop-i l = (l.i ≤ 64) × (length l.initial.b ≡ 64) × (length l.b ≡ 64) × (l.b ≡ xored l.x (take l.i l.initial.b) ++ drop l.i l.initial.b)
-
-abbrev pub decreases-loop-i : goal.decreases-loop-i
-decreases-loop-i l = 64 - l.i
+abbrev pub invariant-loop-b : goal.invariant-loop-b
+invariant-loop-b l = (length l.fn.block ≡ 64) × (l.b-items ≡ xored l.x (take l.b-index l.fn.block) ++ drop l.b-index l.fn.block)

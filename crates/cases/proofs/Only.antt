@@ -7,18 +7,14 @@ use mathlib.Core.Path.{◌≡◌, sym, ◌∙◌, ap₂, subst}
 use Rattle.text.specs.declared.write.Cursor.{Cursor}
 use Rattle.text.proofs.Only.{add_promise_only}
 use Rattle.cases.specs.Answer.{Said, SayPromise}
-use Rattle.cases.specs.Values.{ExactPromise}
 use Rattle.cases.specs.Input.{GatherPromise}
 use Rattle.cases.specs.declared.input.Input.{Input}
-use Rattle.cases.specs.declared.values.Block.{Block}
-use Rattle.cases.specs.declared.values.Sik.{Sik}
 use Rattle.cases.proofs.split.pick_part.Reads as pick-part-reads
 use Rattle.cases.proofs.split.pass_field.Reads as pass-field-reads
 use Rattle.cases.proofs.split.pick_field.Reads as pick-field-reads
 use Rattle.cases.proofs.split.look_up.Reads as look-up-reads
 use Rattle.cases.proofs.values.read_bytes.Reads as read-bytes-reads
-use Rattle.cases.proofs.values.read_block.Reads as read-block-reads
-use Rattle.cases.proofs.values.read_sik.Reads as read-sik-reads
+use Rattle.cases.proofs.values.read_exact.Reads as read-exact-reads
 use Rattle.cases.proofs.values.read_decimal.Reads as read-decimal-reads
 use Rattle.cases.proofs.values.read_id.Reads as read-id-reads
 use Rattle.cases.proofs.values.read_room.Reads as read-room-reads
@@ -55,20 +51,9 @@ pub read_bytes_only : (κs : _) (args : _) (a b : _) (s t : _) → read-bytes-re
     → (a ≡ b) × (s.1.1.0.now ≡ t.1.1.0.now)
 read_bytes_only κs args a b s t p q = (p.answer ∙ sym q.answer, p.buffer ∙ sym q.buffer)
 
-exact_one : (n : ℕ) (s : List ℕ) (e f : Bool) (x y : List ℕ) → ExactPromise n s e x → ExactPromise n s f y → (e ≡ f) × (x ≡ y)
-exact_one n s e f x y p q = (p.answer ∙ sym q.answer, p.buffer ∙ sym q.buffer)
-
-pub read_block_only : (κs : _) (args : _) (a b : Block) (s t : _)
-    → read-block-reads.Post κs args a s → read-block-reads.Post κs args b t → a ≡ b
-read_block_only κs args a b s t p q =
-    let h = exact_one 16 _ _ _ _ _ p q in
-    ap₂ (λ (e : Bool) (x : List ℕ). let r : Block = record { bad = e; bytes = x } in r) h.0 h.1
-
-pub read_sik_only : (κs : _) (args : _) (a b : Sik) (s t : _)
-    → read-sik-reads.Post κs args a s → read-sik-reads.Post κs args b t → a ≡ b
-read_sik_only κs args a b s t p q =
-    let h = exact_one 20 _ _ _ _ _ p q in
-    ap₂ (λ (e : Bool) (x : List ℕ). let r : Sik = record { bad = e; bytes = x } in r) h.0 h.1
+pub read_exact_only : (n : ℕ) (f : _) (κs : _) (args : _) (a b : _) (s t : _)
+    → read-exact-reads.Post n f κs args a s → read-exact-reads.Post n f κs args b t → a ≡ b
+read_exact_only n f κs args a b s t p q = p.answer ∙ sym q.answer
 
 pub read_decimal_only : (κs : _) (args : _) (a b : _) (s t : _)
     → read-decimal-reads.Post κs args a s → read-decimal-reads.Post κs args b t → a ≡ b

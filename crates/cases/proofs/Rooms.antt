@@ -1,51 +1,33 @@
--- Laws of the room that is lent: the turns of the two loops, and what is told of it.
-use Prim.Native.Nat.{ℕ, ◌+◌, ◌≤◌, ◌<◌}
-use native.Mathlib.Omega.{arith}
-use native.Mathlib.Numerals.{add-one}
-use mathlib.Core.Bool.{Bool, true, false}
-use mathlib.Core.List.{List, [], ◌∷◌}
-use mathlib.Core.Path.{◌≡◌, sym, ◌∙◌, ap}
-use lib.ListN.{length, get_or, drop, set, replicate, length-replicate, replicate-append-replicate, drop_of_length-le}
-use lib.Seq.{drop-cons}
-use borrow.Author.Tests.{le-leb, lt-leb, eq-eqb, ne_eqb}
-use Rattle.octets.specs.Place.{pasted, begun}
-use Rattle.octets.proofs.Place.{begun_first}
-use Rattle.octets.proofs.Place.{pasted-more}
+-- Laws of the room that is lent: when it is untouched, and what is told of it.
+use Prim.Native.Nat.{ℕ, ◌≤◌, ◌<◌}
+use mathlib.Core.Bool.{Bool, true, false, ◌&&◌}
+use mathlib.Core.List.{List, [], ◌∷◌, ◌++◌}
+use mathlib.Core.Path.{◌≡◌, refl, sym, ◌∙◌, ap}
+use lib.Dec.{eqb}
+use Rattle.std.specs.List.{list_all}
+use lib.ListN.{length, drop, replicate, length-replicate}
+use borrow.Author.Tests.{le-leb, lt-leb}
+use Rattle.octets.specs.Place.{begun}
 use Rattle.cases.specs.Fields.{part_of}
 use Rattle.cases.specs.Room.{lent_of, untouched, spilled_word, spill_pieces}
 use Rattle.octets.proofs.Order.{cond_true, cond_false}
 
--- one byte more
-pub fill_turn : (x d : List ℕ) (i : ℕ) → x ≡ begun (replicate i 0xee) d → i < length d → set x i 0xee ≡ begun (replicate (i + 1) 0xee) d
-fill_turn x d i e h =
-    let z : 0 + i ≡ i = omega arith in
-    ap (λ (q : List ℕ). set q i 0xee) (e ∙ sym (begun_first (replicate i 0xee) d))
-    ∙ ap (λ (j : ℕ). set (pasted d 0 (replicate i 0xee)) j 0xee) (sym z)
-    ∙ pasted-more d (replicate i 0xee) 0 i 0xee (length-replicate i 0xee) (omega arith)
-    ∙ ap (pasted d 0) (replicate-append-replicate i 1 0xee)
-    ∙ begun_first (replicate (i + 1) 0xee) d
-
 module _ (n : ℕ) (d : List ℕ) where
-  pub lent_all : n ≤ length d → begun (replicate n 0xee) d ≡ lent_of n d
-  unfolding lent_of
-  lent_all h = sym (cond_true _ (begun (replicate n 0xee) d) d (le-leb n (length d) h))
+  pub lent_all : (x : List ℕ) → x ≡ replicate n 0xee → n ≤ length d → x ++ drop n d ≡ lent_of n d
+  unfolding lent_of begun
+  lent_all x e h =
+      ap (λ (q : List ℕ). q ++ drop n d) e
+      ∙ ap (λ (k : ℕ). replicate n 0xee ++ drop k d) (sym (length-replicate n 0xee))
+      ∙ sym (cond_true _ (begun (replicate n 0xee) d) d (le-leb n (length d) h))
 
   pub lent_none : length d < n → d ≡ lent_of n d
   unfolding lent_of
   lent_none h = sym (cond_false _ (begun (replicate n 0xee) d) d (lt-leb n (length d) h))
 
-module _ (l : List ℕ) (i : ℕ) (e : untouched (drop i l) ≡ untouched l) where
-  pub touched_here : i < length l → (get_or l i 0 ≡ 0xee → ⊥) → false ≡ untouched l
-  touched_here h n = sym (ap untouched (drop-cons l i 0 h) ∙ rw (ne_eqb (get_or l i 0) 0xee n)) ∙ e
-
-  pub untouched_here : i < length l → get_or l i 0 ≡ 0xee → untouched (drop (i + 1) l) ≡ untouched l
-  untouched_here h n =
-      ap (λ (j : ℕ). untouched (drop j l)) (add-one i)
-      ∙ sym (ap untouched (drop-cons l i 0 h) ∙ rw (eq-eqb (get_or l i 0) 0xee n))
-      ∙ e
-
-  pub untouched_all : length l ≤ i → true ≡ untouched l
-  untouched_all h = ap untouched (sym (drop_of_length-le l h)) ∙ e
+-- all is untouched exactly where each byte is
+pub untouched-all : (l : List ℕ) → untouched l ≡ list_all (λ b. eqb b 0xee) l
+untouched-all [] = refl
+untouched-all (b ∷ l) = ap (λ (t : Bool). eqb b 0xee && t) (untouched-all l)
 
 module _ (room p : List ℕ) (a e : ℕ) (f : p ≡ part_of room a e) (t : Bool) (g : t ≡ untouched p) where
   pub spill_none : t ≡ true → [] ≡ spill_pieces room a e

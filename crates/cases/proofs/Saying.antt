@@ -3,8 +3,8 @@ use Prim.Native.Nat.{ℕ}
 use mathlib.Core.Bool.{true, false}
 use mathlib.Core.List.{List, [], ◌∷◌, ◌++◌}
 use mathlib.Core.Path.{◌≡◌, refl, sym, ◌∙◌, ap, ap₂, subst}
+use lib.Dec.{eqb}
 use lib.ListN.{length}
-use borrow.Author.Tests.{eq-eqb, ne_eqb}
 use Rattle.refusal.specs.Table.{number_of, value_of, carries_of}
 use Rattle.refusal.specs.declared.Refusal.{Refusal}
 use Rattle.text.specs.Digits.{decimal, hex}
@@ -37,13 +37,13 @@ pub say_piece : (d : List ℕ) (c : Cursor) (s : List ℕ) (r : Cursor) (x : Lis
 say_piece d c s r x p = record { said = (r, x, p, (refl, refl)) }
 
 module _ (s : List ℕ) where
-  pub shown_none : length s ≡ 0 → dash ≡ shown s
+  pub shown_none : eqb (length s) 0 ≡ true → dash ≡ shown s
   unfolding shown
-  shown_none e = rw (eq-eqb (length s) 0 e)
+  shown_none e = rw e
 
-  pub shown_some : (length s ≡ 0 → ⊥) → hex s ≡ shown s
+  pub shown_some : eqb (length s) 0 ≡ false → hex s ≡ shown s
   unfolding shown
-  shown_some e = rw (ne_eqb (length s) 0 e)
+  shown_some e = rw e
 
 module _ (r : Refusal) (n : ℕ) (e : n ≡ number_of r) where
   pub refused_plain : carries_of r ≡ false → refused_word ∷ decimal n ∷ [] ≡ refusal_pieces r

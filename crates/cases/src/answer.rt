@@ -11,7 +11,7 @@ use text::Cursor;
 fn show_bytes(out: &mut [u8], c: Cursor, s: &[u8]) -> Cursor
     ensures { AddPromise out.old c (shown s.now) result out.new }
 {
-    if s.len() == 0 {
+    if s.is_empty() {
         return text::add(out, c, b"-");
     }
     text::hex(out, c, s)

@@ -12,7 +12,7 @@ pub struct Input {
     pub to: usize,
     // What has been gathered of the line; full once the line is longer than is taken.
     pub line: Cursor,
-    // Whether that is the whole line.
+    // Whether that is the whole line. No Option around the cursor: it counts either way, for the next piece goes on from it.
     pub whole: bool,
 }
 

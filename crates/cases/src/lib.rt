@@ -11,6 +11,4 @@ pub use answer::{say_bytes, say_id, say_number, say_refusal};
 pub use input::{Input, gather, pick_line};
 pub use room::{fill_room, say_spill};
 pub use split::{look_up, pass_field, pick_field, pick_part};
-pub use values::{
-    Block, Count, Sik, Span, read_block, read_bytes, read_decimal, read_id, read_room, read_sik,
-};
+pub use values::{Span, read_bytes, read_decimal, read_exact, read_id, read_room};

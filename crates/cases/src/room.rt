@@ -13,13 +13,8 @@ const LENT: u8 = 0xee;
 pub fn fill_room(room: &mut [u8], n: usize)
     ensures { room.new ≡ lent_of n room.old }
 {
-    if room.len() < n {
-        return;
-    }
-    let mut i: usize = 0;
-    while i < n {
-        room[i] = LENT;
-        i += 1;
+    if n <= room.len() {
+        room[..n].fill(LENT);
     }
 }
 
@@ -27,14 +22,7 @@ pub fn fill_room(room: &mut [u8], n: usize)
 fn is_untouched(s: &[u8]) -> bool
     ensures { result ≡ untouched s.now }
 {
-    let mut i: usize = 0;
-    while i < s.len() {
-        if s[i] != LENT {
-            return false;
-        }
-        i += 1;
-    }
-    true
+    s.iter().all(|b| *b == LENT)
 }
 
 // ` spilled`, where a byte of the room from `from` up to `to` is not as it was lent.

@@ -36,10 +36,8 @@ pub fn pick_field(line: &[u8], k: usize) -> &[u8]
         × (result.ref_ptr.1 ≡ line.entry.ref_ptr.1 + behind_at 0x20 k line.now) }
 {
     let mut at: usize = 0;
-    let mut i: usize = 0;
-    while i < k {
+    for _ in 0..k {
         at = pass_field(line, at, b' ');
-        i += 1;
     }
     pick_part(line, at, text::field_end(line, at, b' '))
 }
@@ -49,12 +47,10 @@ pub fn look_up(words: &[u8], s: &[u8]) -> usize
     ensures { result ≡ place_of s.now (cut 0x20 words.now) }
 {
     let n = text::fields(words, b' ');
-    let mut k: usize = 0;
-    while k < n {
+    for k in 0..n {
         if octets::same(pick_field(words, k), s) {
             return k;
         }
-        k += 1;
     }
     n
 }

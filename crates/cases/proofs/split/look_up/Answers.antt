@@ -13,7 +13,7 @@ returns-then-same c =
     let l = c.loop-k in
     let h : l.k < length (cut 0x20 a.words.now) = omega (arith, c.fields-n.ensures) in
     let e = word-found _ _ _ _ _ c.pick_field.ensures.0 c.same.ensures c.if-same.true in
-    word_here a.s.now (cut 0x20 a.words.now) l.k l.invariant.1 h e
+    word_here a.s.now (cut 0x20 a.words.now) l.k l.invariant h e
 
 pub loop-k-preserved : goal.loop-k-preserved
 unfolding field_of
@@ -22,4 +22,4 @@ loop-k-preserved c =
     let l = c.loop-k in
     let h : l.k < length (cut 0x20 a.words.now) = omega (arith, c.fields-n.ensures) in
     let e = word-found _ _ _ _ _ c.pick_field.ensures.0 c.same.ensures c.if-same.false in
-    (omega arith, word-not a.s.now (cut 0x20 a.words.now) l.k l.invariant.1 h e)
+    word-not a.s.now (cut 0x20 a.words.now) l.k l.invariant h e

@@ -1,5 +1,5 @@
 -- `look_up` keeps its promise: the words before the k-th are others.
-use Prim.Native.Nat.{◌+◌, ◌-◌, ◌≤◌}
+use Prim.Native.Nat.{◌+◌}
 use mathlib.Core.Path.{◌≡◌}
 use lib.ListN.{drop}
 use Rattle.text.specs.Fields.{cut}
@@ -7,7 +7,4 @@ use Rattle.cases.specs.Fields.{place_of}
 use Rattle.cases.proofs.split.look_up.Given as goal
 
 abbrev pub invariant-loop-k : goal.invariant-loop-k
-invariant-loop-k l = (l.k ≤ l.n) × (place_of l.s (cut 0x20 l.words) ≡ l.k + place_of l.s (drop l.k (cut 0x20 l.words)))
-
-abbrev pub decreases-loop-k : goal.decreases-loop-k
-decreases-loop-k l = l.n - l.k
+invariant-loop-k l = place_of l.s (cut 0x20 l.words) ≡ l.k + place_of l.s (drop l.k (cut 0x20 l.words))

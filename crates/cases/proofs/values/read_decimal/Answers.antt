@@ -5,6 +5,4 @@ use Rattle.text.proofs.Reading.{number_most}
 use Rattle.cases.proofs.values.read_decimal.Goals as goal
 
 pub overflow_cast-result : goal.overflow_cast-result
-overflow_cast-result c =
-    let e = sym c.in-Value.is ∙ c.undecimal.ensures in
-    omega (arith, number_most 10 c.args.most _ _ e)
+overflow_cast-result c = omega (arith, number_most 10 c.args.most _ _ (sym c.in_ok-v.was ∙ c.undecimal.ensures))

@@ -1,6 +1,6 @@
 -- `unhex_text` keeps its promise: `-` says no bytes, and of anything else what `unhex` told is told.
 use mathlib.Core.Path.{sym, ◌∙◌}
-use Rattle.cases.proofs.Reading.{bytes_dash, bytes_hex}
+use Rattle.cases.proofs.Reading.{bytes_dash, bytes_some, bytes_empty, bytes_bad}
 use Rattle.cases.proofs.values.unhex_text.Goals as goal
 
 pub returns-then-same : goal.returns-then-same
@@ -8,20 +8,17 @@ returns-then-same c =
     let a = c.args in
     bytes_dash a.out.now a.at a.s.now (sym c.same.ensures ∙ c.if-same.true)
 
-pub returns-in-Bytes : goal.returns-in-Bytes
-returns-in-Bytes c =
+pub returns-in-Ok : goal.returns-in-Ok
+returns-in-Ok c =
     let a = c.args in
-    let e = sym c.same.ensures ∙ c.if-same.false in
-    rw c.in-Bytes.is at (bytes_hex a.out.now a.at a.s.now _ _ e c.unhex.ensures)
+    bytes_some a.out.now a.at a.s.now _ _ (sym c.same.ensures ∙ c.if-same.false) c.unhex.ensures _ c.in-Ok.is c.if-n-gt0.true
 
-pub returns-in-Bad : goal.returns-in-Bad
-returns-in-Bad c =
+pub returns-in_default : goal.returns-in_default
+returns-in_default c =
     let a = c.args in
-    let e = sym c.same.ensures ∙ c.if-same.false in
-    rw c.in-Bad.is at (bytes_hex a.out.now a.at a.s.now _ _ e c.unhex.ensures)
+    bytes_empty a.out.now a.at a.s.now _ _ (sym c.same.ensures ∙ c.if-same.false) c.unhex.ensures _ c.in-Ok.is c.if-n-gt0.false
 
-pub returns-in-NoRoom : goal.returns-in-NoRoom
-returns-in-NoRoom c =
+pub returns-in_default-2 : goal.returns-in_default-2
+returns-in_default-2 c =
     let a = c.args in
-    let e = sym c.same.ensures ∙ c.if-same.false in
-    rw c.in-NoRoom.is at (bytes_hex a.out.now a.at a.s.now _ _ e c.unhex.ensures)
+    bytes_bad a.out.now a.at a.s.now _ _ (sym c.same.ensures ∙ c.if-same.false) c.unhex.ensures _ c.in_default.is

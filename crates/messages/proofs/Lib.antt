@@ -1,5 +1,4 @@
 pub mod Tests
-pub mod Blocks
 pub mod Names
 pub mod Writing
 pub mod Reading

@@ -2,7 +2,7 @@
 -- the algorithm's code at 4, the others reserved.
 use Rattle.std.specs.Prelude.{ℕ, List, [], ◌∷◌, eqb, leb, get_or}
 use Rattle.refusal.specs.Order.{Res, accept, need, and_then}
-use Rattle.messages.specs.Auth.{authentication_code, integrity_code, confidentiality_code}
+use Rattle.messages.specs.Auth.{authentication_code, integrity_code, confidentiality_code, coded}
 use Rattle.messages.specs.declared.open_session.AlgorithmPayload.{AlgorithmPayload}
 use Rattle.messages.specs.declared.open_session.AlgorithmPayload.TheVariants.{Authentication, Integrity, Confidentiality}
 
@@ -11,13 +11,9 @@ pub record Block : Type 0 where
   pub type : ℕ
   pub code : ℕ
 
--- the last known code of each type: 4 for integrity, 3 for the others
-abbrev pub last_code : ℕ → ℕ
-last_code t = get_or (3 ∷ 4 ∷ 3 ∷ []) t 0
-
 -- the code c in a block of the type t
 unfoldable pub known : ℕ → ℕ → Res Block
-known t c = need (leb c (last_code t)) 23 c (accept (record { type = t; code = c }))
+known t c = and_then (coded t c) (λ k. accept (record { type = t; code = k }))
 
 -- reading one block of eight bytes, in the order of the refusals
 unfoldable pub block_of : List ℕ → Res Block

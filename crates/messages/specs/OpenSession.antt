@@ -1,19 +1,17 @@
 -- Opening a session (docs/RULES.md, 7.1 and 7.2; the Standard, 13.17 and 13.18): the request's bytes, the response's order.
-use Rattle.std.specs.Prelude.{ℕ, not, List, ◌∷◌, ◌++◌, eqb, leb, length, get_or}
+use Rattle.std.specs.Prelude.{ℕ, not, Option, unwrap_or, List, ◌∷◌, ◌++◌, eqb, leb, length, get_or}
 use Rattle.refusal.specs.Order.{Res, accept, need, and_then}
 use Rattle.octets.specs.Number.{le, unle}
 use Rattle.octets.specs.Place.{part}
 use Rattle.messages.specs.Auth.{authentication_code, integrity_code, confidentiality_code, is_level}
 use Rattle.messages.specs.Block.{block_of, of_type, block_bytes}
 use Rattle.messages.specs.Status.{status_number, names_open}
-use Rattle.messages.specs.declared.open_session.RequestedPrivilege.{RequestedPrivilege}
-use Rattle.messages.specs.declared.open_session.RequestedPrivilege.TheVariants.{None, Level}
 use Rattle.messages.specs.declared.open_session.OpenSessionRequest.{OpenSessionRequest}
 use Rattle.messages.specs.declared.open_session.OpenSessionResponse.{OpenSessionResponse}
 
-abbrev pub level_byte : RequestedPrivilege → ℕ
-level_byte None = 0
-level_byte (Level b) = b
+-- the level that is asked for, 0 where none is
+abbrev pub level_byte : Option ℕ → ℕ
+level_byte level = unwrap_or level 0
 
 -- the request: tag, level, two zeros, the console's id, three blocks
 unfoldable pub open_request : OpenSessionRequest → List ℕ

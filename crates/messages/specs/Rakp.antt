@@ -1,5 +1,5 @@
 -- RAKP messages (docs/RULES.md, 7.2, 7.4, 7.5; the Standard, 13.20 to 13.23).
-use Rattle.std.specs.Prelude.{ℕ, ◌-◌, not, List, [], ◌∷◌, ◌++◌, eqb, leb, length, get_or, replicate}
+use Rattle.std.specs.Prelude.{ℕ, ◌-◌, not, List, [], ◌∷◌, ◌++◌, eqb, leb, length, get_or}
 use Rattle.refusal.specs.Order.{Res, accept, need, and_then}
 use Rattle.octets.specs.Number.{le, unle}
 use Rattle.octets.specs.Place.{part}
@@ -40,17 +40,6 @@ fields2 m =
 
 unfoldable pub message2 : List ℕ → Res RakpMessage2
 message2 m = and_then (checked names2 code_at2 20 0 m) (λ _. accept (fields2 m))
-
--- what a refused message 2 hands out
-unfoldable pub none2 : RakpMessage2
-none2 =
-    record {
-      tag = 0;
-      console = 0;
-      random = replicate 16 0;
-      guid = replicate 16 0;
-      code = record { at = 0; len = 0 };
-    }
 
 -- message 4: the tag; an id at 4; the check value last
 unfoldable pub fields4 : List ℕ → RakpMessage4

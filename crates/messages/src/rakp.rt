@@ -1,21 +1,16 @@
 // What the messages have in common: their answers, statuses with a name, the first eight bytes.
-ghost use Rattle.std.specs.Prelude.{◌≡◌, ◌∷◌};
+ghost use Rattle.std.specs.Prelude.{◌≡◌, ◌+◌, ◌≤◌, ◌∷◌, ◌++◌, length};
 ghost use Rattle.refusal.specs.Table.{number_of, value_of, among};
 ghost use Rattle.octets.specs.Number.{le};
+ghost use Rattle.octets.specs.Place.{begun};
 ghost use Rattle.messages.specs.Status.{status_number};
 ghost use Rattle.messages.specs.Rakp.{checked};
-ghost use Rattle.refusal.specs.Outcome.{told};
+ghost use Rattle.refusal.specs.Answer.{told};
 
-use refusal::{Outcome, Refusal};
+use refusal::Refusal;
 
-// A writer's answer: how many bytes it wrote, or why none.
-#[derive(Clone, Copy)]
-pub enum Written {
-    Bytes(usize),
-    Refused(Refusal),
-}
-
-// A part of the message that was lent: where it starts and how many bytes it has.
+// A part of the message that was lent: where it starts and how many bytes it has. It stays a place and no slice: `fields2` and `fields4`
+// (specs/Rakp) promise the place, and a message that is read borrows nothing.
 #[derive(Clone, Copy)]
 pub struct Place {
     pub at: usize,
@@ -32,53 +27,63 @@ const COMMON: [u8; 3] = [0x01, 0x02, 0x12];
 fn is_listed(b: u8, list: &[u8]) -> bool
     ensures { result ≡ among b list.now }
 {
-    let mut i: usize = 0;
-    while i < list.len() {
-        if list[i] == b {
-            return true;
-        }
-        i += 1;
-    }
-    false
+    list.contains(&b)
 }
 
 // The refusal for a status that is not zero, in a message that has names for `names` too.
+#[tactic(auto, unfolding(crate::specs::Status::status_number))]
 pub(crate) fn refuse_status(status: u8, names: &[u8]) -> Refusal
     ensures { (number_of result ≡ status_number names.now status) × (value_of result ≡ status) }
 {
-    if is_listed(status, &COMMON) {
-        return Refusal::NamedStatus(status);
+    if is_listed(status, &COMMON) || is_listed(status, names) {
+        Refusal::NamedStatus(status)
+    } else {
+        Refusal::UnnamedStatus(status)
     }
-    if is_listed(status, names) {
-        return Refusal::NamedStatus(status);
-    }
-    Refusal::UnnamedStatus(status)
 }
 
 // The tests of messages 2 and 4 on what stands in front: the length, the status, the fixed part's length, the id.
-pub(crate) fn check_head(message: &[u8], names: &[u8], fixed: usize, zero: Refusal) -> Outcome
+#[tactic(auto, unfolding(crate::specs::Rakp::checked, refusal::specs::Order::need))]
+pub(crate) fn check_head(
+    message: &[u8],
+    names: &[u8],
+    fixed: usize,
+    zero: Refusal,
+) -> Result<(), Refusal>
     ensures { told result ≡ checked names.now fixed (number_of zero) (value_of zero) message.now }
 {
     if message.len() < 4 {
-        return Outcome::Refused(Refusal::NotEnoughData);
+        return Err(Refusal::NotEnoughData);
     }
     let status = message[1];
     if status != 0 {
-        return Outcome::Refused(refuse_status(status, names));
+        return Err(refuse_status(status, names));
     }
     if message.len() < fixed {
-        return Outcome::Refused(Refusal::NotEnoughData);
+        return Err(Refusal::NotEnoughData);
     }
     if octets::load_le4(message, 4) == 0 {
-        return Outcome::Refused(zero);
+        return Err(zero);
     }
-    Outcome::Done
+    Ok(())
 }
 
 // Four bytes and an id, as every message that we write begins.
 pub(crate) fn make_head(a: u8, b: u8, c: u8, d: u8, id: u32) -> [u8; 8]
     ensures { result ≡ a ∷ b ∷ c ∷ d ∷ le 4 id }
 {
-    let n = octets::le4(id);
+    let n = octets::le::<4>(u64::from(id));
     [a, b, c, d, n[0], n[1], n[2], n[3]]
+}
+
+// Four pieces of a message, one after another from the output's start.
+pub(crate) fn put_pieces(out: &mut [u8], first: &[u8], second: &[u8], third: &[u8], fourth: &[u8])
+    requires { length first.now + length second.now + length third.now + length fourth.now ≤ length out.old }
+    ensures { out.new ≡ begun (first.now ++ second.now ++ third.now ++ fourth.now) out.old }
+{
+    let third_at = first.len() + second.len();
+    octets::put(out, 0, first);
+    octets::put(out, first.len(), second);
+    octets::put(out, third_at, third);
+    octets::put(out, third_at + third.len(), fourth);
 }

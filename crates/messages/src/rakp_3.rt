@@ -3,7 +3,6 @@ ghost use Rattle.messages.specs.Rakp.{message3, declined3};
 ghost use Rattle.messages.specs.Promises.{WritePromise};
 
 use crate::rakp;
-use crate::rakp::Written;
 use refusal::Refusal;
 
 // The status that declines: invalid integrity check value.
@@ -17,29 +16,29 @@ pub struct RakpMessage3 {
 
 impl RakpMessage3 {
     // The message with the console's code, whose length is the algorithm's.
-    pub fn write(self, code: &[u8], out: &mut [u8]) -> Written
+    pub fn write(self, code: &[u8], out: &mut [u8]) -> Result<usize, Refusal>
         ensures { WritePromise (message3 self code.now) out.old result out.new }
     {
         if out.len() < rakp::HEAD {
-            return Written::Refused(Refusal::OutputTooShort);
+            return Err(Refusal::OutputTooShort);
         }
         if out.len() - rakp::HEAD < code.len() {
-            return Written::Refused(Refusal::OutputTooShort);
+            return Err(Refusal::OutputTooShort);
         }
         let head = rakp::make_head(self.tag, 0, 0, 0, self.system);
         octets::put(out, 0, &head);
         octets::put(out, rakp::HEAD, code);
-        Written::Bytes(rakp::HEAD + code.len())
+        Ok(rakp::HEAD + code.len())
     }
 
     // The message that declines the exchange.
-    pub fn decline(self, out: &mut [u8]) -> Written
+    pub fn decline(self, out: &mut [u8]) -> Result<usize, Refusal>
         ensures { WritePromise (declined3 self) out.old result out.new }
     {
         let head = rakp::make_head(self.tag, DECLINED, 0, 0, self.system);
         if !octets::put(out, 0, &head) {
-            return Written::Refused(Refusal::OutputTooShort);
+            return Err(Refusal::OutputTooShort);
         }
-        Written::Bytes(rakp::HEAD)
+        Ok(rakp::HEAD)
     }
 }

@@ -5,7 +5,7 @@ ghost use Rattle.messages.specs.Answers.{told4};
 
 use crate::rakp;
 use crate::rakp::Place;
-use refusal::{Outcome, Refusal};
+use refusal::Refusal;
 
 // Where the check value begins, and the statuses that have a name here besides the common ones.
 const VALUE_AT: usize = 8;
@@ -19,31 +19,24 @@ pub struct RakpMessage4 {
     pub value: Place,
 }
 
-#[derive(Clone, Copy)]
-pub enum RakpAnswer4 {
-    Message(RakpMessage4),
-    Refused(Refusal),
-}
-
 impl RakpMessage4 {
-    pub fn from_data(message: &[u8]) -> RakpAnswer4
+    #[tactic(auto, unfolding(crate::specs::Rakp::message4, crate::specs::Rakp::checked, crate::specs::Rakp::fields4, refusal::specs::Order::and_then, refusal::specs::Order::need))]
+    pub fn from_data(message: &[u8]) -> Result<RakpMessage4, Refusal>
         ensures { told4 result ≡ message4 message.now }
     {
-        match rakp::check_head(
+        rakp::check_head(
             message,
             &NAMES,
             VALUE_AT,
             Refusal::ZeroManagedSystemSessionId,
-        ) {
-            Outcome::Refused(r) => RakpAnswer4::Refused(r),
-            Outcome::Done => RakpAnswer4::Message(RakpMessage4 {
-                tag: message[0],
-                id: octets::load_le4(message, 4),
-                value: Place {
-                    at: VALUE_AT,
-                    len: message.len() - VALUE_AT,
-                },
-            }),
-        }
+        )?;
+        Ok(RakpMessage4 {
+            tag: message[0],
+            id: octets::load_le4(message, 4),
+            value: Place {
+                at: VALUE_AT,
+                len: message.len() - VALUE_AT,
+            },
+        })
     }
 }

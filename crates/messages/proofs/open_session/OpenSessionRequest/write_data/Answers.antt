@@ -1,16 +1,18 @@
 -- `OpenSessionRequest::write_data` keeps its promise: its pieces are the request's.
 use native.Mathlib.Omega.{arith}
-use Rattle.messages.proofs.Opening.{request_no, request_yes}
+use mathlib.Core.Path.{refl, ◌∙◌}
+use Rattle.messages.specs.OpenSession.{open_request}
+use Rattle.messages.proofs.Writing.{write_no, write_yes}
 use Rattle.messages.proofs.open_session.OpenSessionRequest.write_data.Goals as goal
 
 pub returns-then-out-lt-REQUEST_LEN : goal.returns-then-out-lt-REQUEST_LEN
-returns-then-out-lt-REQUEST_LEN c = let a = c.args in request_no a.self a.out.now (omega arith)
+unfolding open_request
+returns-then-out-lt-REQUEST_LEN c = write_no (open_request c.args.self) c.args.out.now (omega arith)
 
 pub returns : goal.returns
+unfolding open_request
 returns c =
-    let a = c.args in
-    request_yes a.self a.out.now _ _ _ _ _ _ (omega arith)
-    c.encode_level.ensures
-    c.make_head.ensures
-    c.write.ensures c.write-2.ensures
-    c.write-3.ensures c.put_pieces.ensures
+    let h = c.make_head.ensures in
+    let l = c.unwrap_or-level.ensures in
+    write_yes (open_request c.args.self) c.args.out.now 32 _ (omega arith) refl
+    (c.put_pieces.ensures ∙ rw (h, l, c.write.ensures, c.write-2.ensures, c.write-3.ensures))

@@ -1,17 +1,14 @@
 -- `RakpMessage1::write` keeps its promise: its pieces are the message's.
 use native.Mathlib.Omega.{arith}
-use Rattle.messages.proofs.Writing.{write1_no, write1_yes}
 use borrow.Author.Rules.{rules}
+use Rattle.messages.proofs.Writing.{write1_no, write1_yes}
 use Rattle.messages.proofs.rakp_1.RakpMessage1.write.Goals as goal
 
 pub returns-then-out-n : goal.returns-then-out-n
-returns-then-out-n c =
-    let a = c.args in
-    write1_no a.self (search rules) _ c.count_name-n.ensures.0 a.out.now (omega arith)
+returns-then-out-n c = write1_no c.args.self (search rules) _ c.count_name-n.ensures.0 c.args.out.now (omega arith)
 
 pub returns : goal.returns
 returns c =
     let a = c.args in
-    write1_yes a.self (search rules) _ c.count_name-n.ensures.0
-    a.out.now _ _ _ (omega arith) c.make_head.ensures
-    c.count_name-n.ensures.2 c.put_pieces.ensures
+    write1_yes a.self (search rules) _ c.count_name-n.ensures.0 a.out.now _ _ _ (omega arith) c.make_head.ensures c.count_name-n.ensures.2
+    c.put_pieces.ensures

@@ -1,19 +1,19 @@
--- `RakpMessage2::from_data` keeps its promise: the tests, then the fields.
-use Rattle.messages.proofs.Reading.{test_passed, checked_size, read2_no, read2_yes}
+-- `RakpMessage2::from_data` keeps its promise: each field at its place.
+use native.Mathlib.Omega.{arith}
+use mathlib.Core.Path.{sym, ◌∙◌, ap}
+use Rattle.refusal.specs.Order.{accept}
+use Rattle.refusal.proofs.Order.{then_accept}
+use Rattle.octets.proofs.Filled.{filled-part}
+use Rattle.messages.specs.Rakp.{fields2, message2}
+use Rattle.messages.proofs.Reading.{test_passed, checked_size}
 use Rattle.messages.proofs.rakp_2.RakpMessage2.from_data.Goals as goal
 
-pub read_fields-requires : goal.read_fields-requires
-read_fields-requires c =
-    checked_size _ 40 _ _ _ (test_passed _ _ c.check_head.ensures c.in-Done.is)
-
-pub returns-in-Refused : goal.returns-in-Refused
-returns-in-Refused c =
-    let a = c.args in
-    read2_no a.message.now _ c.check_head.ensures _ _
-    c.in-Refused.is c.make_blank.ensures
-
-pub returns-in-Done : goal.returns-in-Done
-returns-in-Done c =
-    let a = c.args in
-    read2_yes a.message.now _ c.check_head.ensures _ c.in-Done.is
-    c.read_fields.ensures
+pub returns : goal.returns
+unfolding message2 fields2
+returns c =
+    let m = c.args.message.now in
+    let e = test_passed _ _ c.check_head.ensures c.in_ok-check_head.was in
+    let s = checked_size _ 40 _ _ m e in
+    let random = c.cut.ensures ∙ filled-part 16 m 8 (omega arith) in
+    let guid = c.cut-2.ensures ∙ filled-part 16 m 24 (omega arith) in
+    record { answer = ap accept (rw (c.load_le4.ensures, guid, random)) ∙ sym (then_accept _ _ _ e) }

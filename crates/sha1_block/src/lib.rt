@@ -7,8 +7,7 @@ ghost use Rattle.sha1_block.specs.Word.{rotl, word};
 ghost use Rattle.sha1_block.specs.Block.{f_t, k_t, words, next, schedule, round, added, compress, sha1_hash};
 ghost use Rattle.sha1_block.specs.Turns.{turns};
 
-use octets::be4;
-use std::num::wrapping_add_u32;
+use octets::be;
 
 // The chaining value; in the rounds, the five working variables.
 #[derive(Clone, Copy)]
@@ -20,39 +19,16 @@ pub struct Chain {
     e: u32,
 }
 
-fn rotl1(x: u32) -> u32
-    ensures { result ≡ rotl 1 x }
-{
-    (x << 1) | (x >> 31)
-}
-
-fn rotl5(x: u32) -> u32
-    ensures { result ≡ rotl 5 x }
-{
-    (x << 5) | (x >> 27)
-}
-
-fn rotl30(x: u32) -> u32
-    ensures { result ≡ rotl 30 x }
-{
-    (x << 30) | (x >> 2)
-}
-
-fn widen(x: u8) -> u32
-    ensures { (result ≡ x) × (result < 256) }
-{
-    x as u32
-}
-
 // The word that begins at byte i.
 fn load_word(m: &[u8], i: usize) -> u32
     requires { i + 4 ≤ length m.now }
     ensures { result ≡ word m.now i }
 {
-    widen(m[i]) * 16777216 + widen(m[i + 1]) * 65536 + widen(m[i + 2]) * 256 + widen(m[i + 3])
+    u32::from_be_bytes([m[i], m[i + 1], m[i + 2], m[i + 3]])
 }
 
 // The function f_t.
+#[tactic(auto, unfolding(crate::specs::Block::f_t))]
 fn f(t: usize, x: u32, y: u32, z: u32) -> u32
     ensures { result ≡ f_t t x y z }
 {
@@ -69,6 +45,7 @@ fn f(t: usize, x: u32, y: u32, z: u32) -> u32
 }
 
 // The constant K_t.
+#[tactic(auto, unfolding(crate::specs::Block::k_t))]
 fn k(t: usize) -> u32
     ensures { result ≡ k_t t }
 {
@@ -85,45 +62,48 @@ fn k(t: usize) -> u32
 }
 
 // Round t with the word w.
+#[tactic(auto, unfolding(crate::specs::Block::round))]
 fn do_round(t: usize, w: u32, v: Chain) -> Chain
     ensures { result ≡ round t w v }
 {
-    let s = wrapping_add_u32(rotl5(v.a), f(t, v.b, v.c, v.d));
-    let s = wrapping_add_u32(s, v.e);
-    let s = wrapping_add_u32(s, k(t));
+    let s = v
+        .a
+        .rotate_left(5)
+        .wrapping_add(f(t, v.b, v.c, v.d))
+        .wrapping_add(v.e)
+        .wrapping_add(k(t))
+        .wrapping_add(w);
     Chain {
-        a: wrapping_add_u32(s, w),
+        a: s,
         b: v.a,
-        c: rotl30(v.b),
+        c: v.b.rotate_left(30),
         d: v.c,
         e: v.d,
     }
 }
 
 // Twenty rounds from s on. Four such runs are the eighty: a loop of twenty is unrolled, and `f` and `k` fold away.
+#[tactic(auto, using(crate::proofs::Laws::turns_more), unfolding(crate::specs::Turns::turns))]
 fn do_twenty_rounds(h: Chain, w: &[u32; 80], s: usize) -> Chain
     requires { s ≤ 60 }
     ensures { result ≡ turns s 20 w.now h }
 {
     let mut v = h;
-    let mut t: usize = 0;
-    while t < 20 {
+    for t in 0..20 {
         v = do_round(s + t, w[s + t], v);
-        t += 1;
     }
     v
 }
 
 // The sixteen words of the block m.
+#[tactic(auto, using(crate::proofs::Laws::words_more), unfolding(crate::specs::Block::words))]
 fn load_block(m: &[u8]) -> [u32; 80]
     requires { length m.now ≡ 64 }
     ensures { take 16 result ≡ words 16 m.now }
 {
     let mut w = [0u32; 80];
-    let mut t: usize = 0;
-    while t < 16 {
+    for t in 0..16 {
         w[t] = load_word(m, t * 4);
-        t += 1;
     }
     w
 }
@@ -133,7 +113,7 @@ fn mix_word(w: &[u32; 80], t: usize) -> u32
     requires { (16 ≤ t) × (t < 80) }
     ensures { result ≡ next w.now t }
 {
-    rotl1(w[t - 3] ^ w[t - 8] ^ w[t - 14] ^ w[t - 16])
+    (w[t - 3] ^ w[t - 8] ^ w[t - 14] ^ w[t - 16]).rotate_left(1)
 }
 
 // The eighty words of the block m.
@@ -142,24 +122,23 @@ fn make_schedule(m: &[u8]) -> [u32; 80]
     ensures { result ≡ schedule m.now }
 {
     let mut w = load_block(m);
-    let mut t: usize = 16;
-    while t < 80 {
+    for t in 16..80 {
         w[t] = mix_word(&w, t);
-        t += 1;
     }
     w
 }
 
 // What the rounds left, added to what they began with.
+#[tactic(auto, unfolding(crate::specs::Block::added))]
 fn add_chains(h: Chain, v: Chain) -> Chain
     ensures { result ≡ added h v }
 {
     Chain {
-        a: wrapping_add_u32(v.a, h.a),
-        b: wrapping_add_u32(v.b, h.b),
-        c: wrapping_add_u32(v.c, h.c),
-        d: wrapping_add_u32(v.d, h.d),
-        e: wrapping_add_u32(v.e, h.e),
+        a: v.a.wrapping_add(h.a),
+        b: v.b.wrapping_add(h.b),
+        c: v.c.wrapping_add(h.c),
+        d: v.d.wrapping_add(h.d),
+        e: v.e.wrapping_add(h.e),
     }
 }
 
@@ -194,10 +173,8 @@ pub fn blocks(h: Chain, s: &[u8]) -> Chain
     ensures { result ≡ runs sha1_hash.compress (length s.now / 64) h s.now }
 {
     let mut v = h;
-    let mut at: usize = 0;
-    while 64 <= s.len() - at {
-        v = compress_block(v, &s[at..at + 64]);
-        at += 64;
+    for block in s.chunks_exact(64) {
+        v = compress_block(v, block);
     }
     v
 }
@@ -206,11 +183,11 @@ pub fn blocks(h: Chain, s: &[u8]) -> Chain
 pub fn bytes(h: Chain) -> [u8; 20]
     ensures { result ≡ sha1_hash.code h }
 {
-    let a = be4(h.a);
-    let b = be4(h.b);
-    let c = be4(h.c);
-    let d = be4(h.d);
-    let e = be4(h.e);
+    let a = be::<4>(u64::from(h.a));
+    let b = be::<4>(u64::from(h.b));
+    let c = be::<4>(u64::from(h.c));
+    let d = be::<4>(u64::from(h.d));
+    let e = be::<4>(u64::from(h.e));
     [
         a[0], a[1], a[2], a[3], b[0], b[1], b[2], b[3], c[0], c[1], c[2], c[3], d[0], d[1], d[2],
         d[3], e[0], e[1], e[2], e[3],

@@ -5,4 +5,15 @@ use Rattle.sha1_block.proofs.bytes.Goals as goal
 pub returns : goal.returns
 unfolding sha1_hash
 returns c =
-    rw (c.be4-a.ensures, c.be4-b.ensures, c.be4-c.ensures, c.be4-d.ensures, c.be4-e.ensures)
+    rw (
+      c.be-a.ensures,
+      c.from.ensures,
+      c.be-b.ensures,
+      c.from-2.ensures,
+      c.be-c.ensures,
+      c.from-3.ensures,
+      c.be-d.ensures,
+      c.from-4.ensures,
+      c.be-e.ensures,
+      c.from-5.ensures,
+    )

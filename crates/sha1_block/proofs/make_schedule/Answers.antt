@@ -10,11 +10,11 @@ loop-t-init c = search rules
 pub loop-t-preserved : goal.loop-t-preserved
 loop-t-preserved c =
     let l = c.loop-t in
-    (search rules, search rules, search rules, more-more l.w _ l.t _ (omega arith) (omega arith) l.invariant.3 c.mix_word.ensures)
+    (search rules, more-more l.w _ l.t _ (omega arith) (omega arith) l.invariant.1 c.mix_word.ensures)
 
 pub returns : goal.returns
 unfolding schedule
 returns c =
     let l = c.loop-t in
     let e : l.t ≡ 80 = omega arith in
-    sym (take_all 80 l.w (omega arith)) ∙ (rw e at l.invariant.3)
+    sym (take_all 80 l.w (omega arith)) ∙ (rw e at l.invariant.1)

@@ -43,6 +43,10 @@ line_for (accept M) = packet_line M.ty M.id M.seq M.len
 unfoldable pub told : List ℕ → List ℕ
 told l = line_for (found l)
 
+-- a packet by its numbers
+abbrev pub packet_told : Packet → Shown
+packet_told p = record { ty = p.kind; id = p.id; seq = p.seq; len = p.len }
+
 -- what is told, by its numbers
 abbrev pub numbers_told : Result Packet Refusal → Res Shown
-numbers_told t = told_as (λ p. record { ty = p.kind; id = p.id; seq = p.seq; len = p.len }) t
+numbers_told t = told_as packet_told t

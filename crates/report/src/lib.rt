@@ -2,12 +2,12 @@
 #![tactic(auto)]
 
 ghost use Rattle.std.specs.Prelude.{◌≡◌};
-ghost use Rattle.reader.specs.Answers.{read_told};
+ghost use Rattle.reader.specs.Answers.{accepted_told};
 ghost use Rattle.text.specs.Promise.{AddPromise};
-ghost use Rattle.report.specs.Told.{Bare, numbers_told, found, told};
+ghost use Rattle.report.specs.Told.{Bare, packet_told, numbers_told, found, told};
 
 use keys::Keys;
-use reader::Reading;
+use reader::Accepted;
 use refusal::Refusal;
 use suite::{Confidentiality, Integrity, SubState};
 use text::{Cursor, Packet};
@@ -15,23 +15,15 @@ use text::{Cursor, Packet};
 // The longest packet that is read.
 pub const LONGEST: usize = 4096;
 
-// A reading as a line has it.
-fn make_telling(a: Reading) -> Result<Packet, Refusal>
-    ensures { numbers_told result ≡ read_told a }
+// A packet that was read, as a line has it.
+fn make_packet(a: Accepted) -> Packet
+    ensures { packet_told result ≡ accepted_told a }
 {
-    match a {
-        Reading::Accepted {
-            ty,
-            session_id,
-            session_sequence_number,
-            len,
-        } => Ok(Packet {
-            kind: ty.number(),
-            id: session_id,
-            seq: session_sequence_number,
-            len,
-        }),
-        Reading::Refused(r) => Err(r),
+    Packet {
+        kind: a.ty.number(),
+        id: a.session_id,
+        seq: a.session_sequence_number,
+        len: a.len,
     }
 }
 
@@ -61,8 +53,7 @@ fn read_packet(packet: &[u8]) -> Result<Packet, Refusal>
         return Err(Refusal::OutputTooShort);
     }
     let r = reader::read_checked(make_session(), packet);
-    let a = r.answer;
-    make_telling(a)
+    r.answer.map(make_packet)
 }
 
 // Adds the line that tells what becomes of the packet.

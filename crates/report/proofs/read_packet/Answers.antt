@@ -4,7 +4,9 @@ use native.Mathlib.Omega.{arith}
 use mathlib.Core.Path.{◌≡◌, sym, ◌∙◌}
 use lib.ListN.{length}
 use borrow.Author.Tests.{eqb-true, eqb-false}
-use Rattle.report.specs.Told.{longest}
+use Rattle.std.proofs.Common.{rules}
+use Rattle.reader.specs.Answers.{read_told}
+use Rattle.report.specs.Told.{longest, numbers_told}
 use Rattle.report.proofs.Telling.{none, long, finds}
 use Rattle.report.proofs.read_packet.Goals as goal
 
@@ -22,9 +24,8 @@ returns-then-packet-gt-LONGEST c =
 
 pub returns : goal.returns
 returns c =
-    let telling = c.make_telling in
     let l = c.args.packet.now in
+    let r = c.read_checked-r in
     let h : (length l ≡ 0 → ⊥) = eqb-false (length l) 0 (sym c.is_empty.ensures ∙ c.if-is_empty.false) in
-    finds _ _ _ _ telling.result (omega arith) (omega arith) c.make_session.ensures
-    c.read_checked-r.ensures
-    telling.ensures
+    let e : numbers_told c.map.result ≡ read_told r.result.answer = search rules in
+    finds _ _ _ _ _ (omega arith) (omega arith) c.make_session.ensures r.ensures e

@@ -7,20 +7,22 @@ ghost use Rattle.octets.specs.Place.{pasted, begun};
 ghost use Rattle.suite.specs.Types.{encrypts, type_number};
 ghost use Rattle.cbc.specs.Cbc.{cbc_encrypt};
 ghost use Rattle.framing.specs.Packet.{header_of, counting, plain_of};
-ghost use Rattle.framing.specs.Write.{least_p, least_q, body_size, packet_size, room_of, longest_payload, our_body, our_pads, ours};
+ghost use Rattle.framing.specs.Write.{least_p, least_q, body_size, packet_size, room_of, write_after, longest_payload, our_body, our_pads, ours};
 ghost use Rattle.suite.specs.Session.{suite_of};
 ghost use Rattle.suite.specs.Told.{stage_told};
 ghost use Rattle.writer.specs.Answers.{WritePromise};
 ghost use Rattle.framing.specs.Outer.{write_of, write_datagram_of};
 
 use refusal::Refusal;
-use suite::{Confidentiality, PayloadType, Stage, SubState};
+use suite::{Confidentiality, PayloadType, SubState};
 
-// What writing answers: the length of what was written, or a refusal.
+// What a packet says.
 #[derive(Clone, Copy)]
-pub enum Written {
-    Length(usize),
-    Refused(Refusal),
+struct Message<'a> {
+    ty: PayloadType,
+    id: u32,
+    seq: u32,
+    payload: &'a [u8],
 }
 
 // The least count of pad bytes for whole blocks.
@@ -54,11 +56,9 @@ fn measure_packet(s: SubState, n: usize) -> usize
     requires { n ≤ 65535 }
     ensures { result ≡ packet_size (suite_of s) n }
 {
-    let c = s.confidentiality;
-    let i = s.integrity;
-    let k = 12 + measure_body(c, n);
-    if suite::carries_code(i) {
-        k + (choose_q(k) + 2 + suite::code_len(i))
+    let k = 12 + measure_body(s.confidentiality, n);
+    if suite::carries_code(s.integrity) {
+        k + (choose_q(k) + 2 + suite::code_len(s.integrity))
     } else {
         k
     }
@@ -72,37 +72,34 @@ fn find_longest_payload(c: Confidentiality) -> usize
 }
 
 // The writer's refusals, for a payload of n bytes behind `before` others.
-fn check_room(s: SubState, n: usize, before: usize, room: usize) -> Stage
+fn check_room(s: SubState, n: usize, before: usize, room: usize) -> Result<usize, Refusal>
     requires { before ≤ 4 }
     ensures { stage_told result ≡ room_of (suite_of s) before n room }
 {
     if n > 65535 {
-        return Stage::Stop(Refusal::PayloadTooLong);
+        return Err(Refusal::PayloadTooLong);
     }
-    let c = s.confidentiality;
-    if find_longest_payload(c) < n {
-        return Stage::Stop(Refusal::EncryptedPayloadTooLong);
+    if find_longest_payload(s.confidentiality) < n {
+        return Err(Refusal::EncryptedPayloadTooLong);
     }
     let size = before + measure_packet(s, n);
     if room < size {
-        return Stage::Stop(Refusal::OutputTooShort);
+        return Err(Refusal::OutputTooShort);
     }
-    Stage::Go(size)
+    Ok(size)
 }
 
 // The twelve bytes before a body of n bytes.
-fn make_header(s: SubState, ty: PayloadType, id: u32, seq: u32, n: usize) -> [u8; 12]
+fn make_header(s: SubState, m: Message, n: usize) -> [u8; 12]
     requires { n ≤ 65535 }
-    ensures { result ≡ header_of (suite_of s) (record { ty = type_number ty; id = id; seq = seq; payload = [] }) n }
+    ensures { result ≡ header_of (suite_of s) (record { ty = type_number m.entry.ty; id = m.entry.id; seq = m.entry.seq; payload = m.entry.payload.now }) n }
 {
-    let c = s.confidentiality;
-    let i = s.integrity;
-    let flags = 128 * suite::make_bit(suite::encrypts(c))
-        + 64 * suite::make_bit(suite::carries_code(i))
-        + ty.number();
-    let d = octets::le4(id);
-    let q = octets::le4(seq);
-    let k = octets::le2(n as u16);
+    let flags = 128 * u8::from(suite::encrypts(s.confidentiality))
+        + 64 * u8::from(suite::carries_code(s.integrity))
+        + m.ty.number();
+    let d = octets::le::<4>(u64::from(m.id));
+    let q = octets::le::<4>(u64::from(m.seq));
+    let k = octets::le::<2>(n as u64);
     [
         0x06, flags, d[0], d[1], d[2], d[3], q[0], q[1], q[2], q[3], k[0], k[1],
     ]
@@ -131,11 +128,12 @@ fn put_trailer(out: &mut [u8], at: usize, q: usize)
     octets::put(out, at, &next[..n]);
 }
 
+// Whole blocks are never refused.
 fn encrypt(key: [u8; 16], iv: [u8; 16], s: &mut [u8])
     requires { length s.old % 16 ≡ 0 }
     ensures { s.new ≡ cbc_encrypt key iv s.old }
 {
-    cbc::cbc_encrypt(key, iv, s);
+    let _ = cbc::cbc_encrypt(key, iv, s);
 }
 
 // An encrypted body at its place: the IV, then payload, pad and count, encrypted where they stand.
@@ -149,10 +147,8 @@ fn write_encrypted(s: SubState, payload: &[u8], iv: [u8; 16], out: &mut [u8])
     octets::put(out, 12, &iv);
     octets::put(out, 28, payload);
     put_pad(out, 28 + n, p);
-    let keys = s.keys;
-    let key = keys.aes_key();
     let end = 28 + n + p + 1;
-    encrypt(key, iv, &mut out[28..end]);
+    encrypt(s.keys.aes_key(), iv, &mut out[28..end]);
 }
 
 // The body at its place.
@@ -160,8 +156,7 @@ fn write_body(s: SubState, payload: &[u8], iv: [u8; 16], out: &mut [u8])
     requires { (length payload.now ≤ 65535) × (12 + body_size (suite_of s).aes (length payload.now) ≤ length out.old) }
     ensures { out.new ≡ pasted out.old 12 (our_body (suite_of s) payload.now iv) }
 {
-    let c = s.confidentiality;
-    if suite::encrypts(c) {
+    if suite::encrypts(s.confidentiality) {
         write_encrypted(s, payload, iv, out);
     } else {
         octets::put(out, 12, payload);
@@ -179,38 +174,49 @@ fn write_code(s: SubState, k: usize, out: &mut [u8])
     let next = k + q + 1;
     let n = next + 1;
     let c = suite::make_code(s, &out[..n]);
-    let i = s.integrity;
-    let m = suite::code_len(i);
+    let m = suite::code_len(s.integrity);
     let code = c.code;
     octets::put(out, n, &code[..m]);
 }
 
 // A packet at the start of an output with room for it.
-fn write_packet(
-    s: SubState,
-    ty: PayloadType,
-    id: u32,
-    seq: u32,
-    payload: &[u8],
-    iv: [u8; 16],
-    out: &mut [u8],
-)
-    requires { (length payload.now ≤ longest_payload (suite_of s).aes) × (packet_size (suite_of s) (length payload.now) ≤ length out.old) }
-    ensures { out.new ≡ begun (ours (suite_of s) (record { ty = type_number ty; id = id; seq = seq; payload = payload.now }) iv)
+fn write_packet(s: SubState, m: Message, iv: [u8; 16], out: &mut [u8])
+    requires { (length m.payload.now ≤ longest_payload (suite_of s).aes) × (packet_size (suite_of s) (length m.payload.now) ≤ length out.old) }
+    ensures { out.new ≡ begun (ours (suite_of s) (record { ty = type_number m.entry.ty; id = m.entry.id; seq = m.entry.seq; payload = m.entry.payload.now }) iv)
         out.old }
 {
-    let c = s.confidentiality;
-    let n = measure_body(c, payload.len());
-    let h = make_header(s, ty, id, seq, n);
+    let payload = m.payload;
+    let n = measure_body(s.confidentiality, payload.len());
+    let h = make_header(s, m, n);
     octets::put(out, 0, &h);
     write_body(s, payload, iv, out);
-    let i = s.integrity;
-    if suite::carries_code(i) {
+    if suite::carries_code(s.integrity) {
         write_code(s, 12 + n, out);
     }
 }
 
+// Writes a packet behind up to four other bytes: what is answered is the length of all.
+fn write_behind(
+    before: &[u8],
+    s: SubState,
+    m: Message,
+    iv: [u8; 16],
+    out: &mut [u8],
+) -> Result<usize, Refusal>
+    requires { length before.now ≤ 4 }
+    ensures { WritePromise (write_after before.now (suite_of s) (record { ty = type_number m.entry.ty; id = m.entry.id; seq = m.entry.seq; payload = m.entry.payload.now }) iv
+        (length out.old)) out.old result out.new }
+{
+    let at = before.len();
+    let payload = m.payload;
+    let n = check_room(s, payload.len(), at, out.len())?;
+    octets::put(out, 0, before);
+    write_packet(s, m, iv, &mut out[at..]);
+    Ok(n)
+}
+
 // Writes a packet of a session.
+#[tactic(auto, unfolding(framing::specs::Outer::write_of))]
 pub fn write_payload(
     s: SubState,
     ty: PayloadType,
@@ -219,22 +225,22 @@ pub fn write_payload(
     payload: &[u8],
     iv: [u8; 16],
     out: &mut [u8],
-) -> Written
+) -> Result<usize, Refusal>
     ensures write_promise { WritePromise (write_of (suite_of s) (record { ty = type_number ty; id = id; seq = seq; payload = payload.now }) iv
         (length out.old)) out.old result out.new }
     ensures bytes { Bytes payload.now }
 {
-    let t = check_room(s, payload.len(), 0, out.len());
-    match t {
-        Stage::Stop(r) => Written::Refused(r),
-        Stage::Go(n) => {
-            write_packet(s, ty, id, seq, payload, iv, out);
-            Written::Length(n)
-        }
-    }
+    let m = Message {
+        ty,
+        id,
+        seq,
+        payload,
+    };
+    write_behind(&[], s, m, iv, out)
 }
 
 // Writes a datagram: the four outer bytes, then a packet.
+#[tactic(auto, unfolding(framing::specs::Outer::write_datagram_of))]
 pub fn write_datagram(
     s: SubState,
     ty: PayloadType,
@@ -243,19 +249,16 @@ pub fn write_datagram(
     payload: &[u8],
     iv: [u8; 16],
     out: &mut [u8],
-) -> Written
+) -> Result<usize, Refusal>
     ensures write_promise { WritePromise (write_datagram_of (suite_of s) (record { ty = type_number ty; id = id; seq = seq; payload = payload.now }) iv
         (length out.old)) out.old result out.new }
     ensures bytes { Bytes payload.now }
 {
-    let t = check_room(s, payload.len(), 4, out.len());
-    match t {
-        Stage::Stop(r) => Written::Refused(r),
-        Stage::Go(n) => {
-            let outer = suite::OUTER;
-            octets::put(out, 0, &outer);
-            write_packet(s, ty, id, seq, payload, iv, &mut out[4..]);
-            Written::Length(n)
-        }
-    }
+    let m = Message {
+        ty,
+        id,
+        seq,
+        payload,
+    };
+    write_behind(&suite::OUTER, s, m, iv, out)
 }

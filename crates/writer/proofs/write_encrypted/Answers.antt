@@ -25,5 +25,5 @@ returns c =
     let whole : length (plain_of x p) % 16 ≡ 0
     = ap (λ (k : ℕ). k % 16) (length-plain x p) ∙ ap (λ (q : ℕ). (length x + q + 1) % 16) ep ∙ p_serves (length x) in
     aes_written cbc_encrypt encrypt_length a.out.now a.iv x _ _ _ _ _ _ p _ _ iv_size (omega (arith, c.requires.1)) whole c.put.ensures
-    c.put-2.ensures c.put_pad.ensures c.encrypt.ensures c.aes_key-key.ensures
+    c.put-2.ensures c.put_pad.ensures c.encrypt.ensures c.aes_key.ensures
     ∙ ap (λ (q : ℕ). pasted a.out.now 12 (a.iv ++ cbc_encrypt (aes_key_of a.s.keys) a.iv (plain_of x q))) ep

@@ -4,7 +4,7 @@ use native.Mathlib.Omega.{arith}
 use mathlib.Core.Path.{◌≡◌, sym, ◌∙◌, subst}
 use lib.ListN.{length}
 use Rattle.framing.specs.Write.{least_q, packet_size}
-use Rattle.framing.proofs.Writes.{longest_small, body_fits, packet_body, packet_code, packet_bare, packet_auth, header_same}
+use Rattle.framing.proofs.Writes.{longest_small, body_fits, packet_body, packet_code, packet_bare, packet_auth}
 use Rattle.suite.specs.Types.{encrypts}
 use Rattle.suite.specs.Session.{suite_of}
 use Rattle.suite.proofs.Suites.{suite_lengths}
@@ -17,12 +17,12 @@ measure_body-n-requires c = omega (arith, c.requires.0, longest_small (encrypts 
 pub make_header-h-requires : goal.make_header-h-requires
 make_header-h-requires c =
     let a = c.args in
-    omega (arith, c.measure_body-n.ensures, body_fits (encrypts a.s.confidentiality) (length a.payload.now) c.requires.0)
+    omega (arith, c.measure_body-n.ensures, body_fits (encrypts a.s.confidentiality) (length a.m.payload.now) c.requires.0)
 
 pub write_body-requires : goal.write_body-requires
 write_body-requires c =
     let a = c.args in
-    let n = length a.payload.now in (
+    let n = length a.m.payload.now in (
       omega (arith, c.requires.0, longest_small (encrypts a.s.confidentiality)),
       omega (arith, c.requires.1, packet_body (suite_of a.s) n, c.put.auto.dst),
     )
@@ -31,7 +31,7 @@ pub write_code-requires : goal.write_code-requires
 write_code-requires c =
     let a = c.args in
     let S = suite_of a.s in
-    let n = length a.payload.now in
+    let n = length a.m.payload.now in
     let b = c.measure_body-n.ensures in
     let out = c.write_body.new.out in
     let kept : length out ≡ length a.out.now = c.write_body.auto.out ∙ c.put.auto.dst in
@@ -47,8 +47,8 @@ returns-then-carries_code c =
     let iv_size : length a.iv ≡ 16 = search rules in
     let S = suite_of a.s in
     packet_auth S (suite_lengths a.s) _ a.iv iv_size a.out.now _ _ _ _ _ c.measure_body-n.ensures
-    (c.make_header-h.ensures ∙ header_same _ _ _ _ _ _) c.put.ensures
-    (omega (arith, c.requires.1, packet_body S (length a.payload.now))) c.write_body.ensures _
+    c.make_header-h.ensures c.put.ensures
+    (omega (arith, c.requires.1, packet_body S (length a.m.payload.now))) c.write_body.ensures _
     (sym c.carries_code.ensures ∙ c.if-carries_code.true) c.write_code.ensures
 
 pub returns-else-carries_code : goal.returns-else-carries_code
@@ -57,6 +57,6 @@ returns-else-carries_code c =
     let iv_size : length a.iv ≡ 16 = search rules in
     let S = suite_of a.s in
     packet_bare S (suite_lengths a.s) _ a.iv iv_size a.out.now _ _ _ _ _ c.measure_body-n.ensures
-    (c.make_header-h.ensures ∙ header_same _ _ _ _ _ _) c.put.ensures
-    (omega (arith, c.requires.1, packet_body S (length a.payload.now))) c.write_body.ensures
+    c.make_header-h.ensures c.put.ensures
+    (omega (arith, c.requires.1, packet_body S (length a.m.payload.now))) c.write_body.ensures
     (sym c.carries_code.ensures ∙ c.if-carries_code.false)

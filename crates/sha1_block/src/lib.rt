@@ -32,16 +32,12 @@ fn load_word(m: &[u8], i: usize) -> u32
 fn f(t: usize, x: u32, y: u32, z: u32) -> u32
     ensures { result ≡ f_t t x y z }
 {
-    if t < 20 {
-        return (x & y) ^ (!x & z);
+    match t {
+        0..20 => (x & y) ^ (!x & z),
+        20..40 => x ^ y ^ z,
+        40..60 => (x & y) ^ (x & z) ^ (y & z),
+        _ => x ^ y ^ z,
     }
-    if t < 40 {
-        return x ^ y ^ z;
-    }
-    if t < 60 {
-        return (x & y) ^ (x & z) ^ (y & z);
-    }
-    x ^ y ^ z
 }
 
 // The constant K_t.
@@ -49,16 +45,12 @@ fn f(t: usize, x: u32, y: u32, z: u32) -> u32
 fn k(t: usize) -> u32
     ensures { result ≡ k_t t }
 {
-    if t < 20 {
-        return 0x5a827999;
+    match t {
+        0..20 => 0x5a827999,
+        20..40 => 0x6ed9eba1,
+        40..60 => 0x8f1bbcdc,
+        _ => 0xca62c1d6,
     }
-    if t < 40 {
-        return 0x6ed9eba1;
-    }
-    if t < 60 {
-        return 0x8f1bbcdc;
-    }
-    0xca62c1d6
 }
 
 // Round t with the word w.
@@ -117,6 +109,7 @@ fn mix_word(w: &[u32; 80], t: usize) -> u32
 }
 
 // The eighty words of the block m.
+#[tactic(auto, unfolding(crate::specs::Block::more))]
 fn make_schedule(m: &[u8]) -> [u32; 80]
     requires { length m.now ≡ 64 }
     ensures { result ≡ schedule m.now }
@@ -143,6 +136,7 @@ fn add_chains(h: Chain, v: Chain) -> Chain
 }
 
 // One block.
+#[tactic(auto, using(crate::proofs::Laws::whole))]
 fn compress_block(h: Chain, m: &[u8]) -> Chain
     requires { length m.now ≡ 64 }
     ensures { result ≡ compress h m.now }
@@ -156,6 +150,7 @@ fn compress_block(h: Chain, m: &[u8]) -> Chain
 }
 
 // The chaining value before the first block.
+#[tactic(auto, unfolding(crate::specs::Block::sha1_hash))]
 pub fn start() -> Chain
     ensures { result ≡ sha1_hash.first }
 {
@@ -180,6 +175,7 @@ pub fn blocks(h: Chain, s: &[u8]) -> Chain
 }
 
 // The twenty bytes of a chaining value.
+#[tactic(auto, unfolding(crate::specs::Block::sha1_hash))]
 pub fn bytes(h: Chain) -> [u8; 20]
     ensures { result ≡ sha1_hash.code h }
 {

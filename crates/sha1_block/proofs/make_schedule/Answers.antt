@@ -1,11 +1,7 @@
 use Rattle.std.proofs.Common.{◌≡◌, sym, ◌∙◌, arith, take_all, rules}
-use Rattle.sha1_block.specs.Block.{more, schedule}
+use Rattle.sha1_block.specs.Block.{schedule}
 use Rattle.sha1_block.proofs.Laws.{more-more}
 use Rattle.sha1_block.proofs.make_schedule.Goals as goal
-
-pub loop-t-init : goal.loop-t-init
-unfolding more
-loop-t-init c = search rules
 
 pub loop-t-preserved : goal.loop-t-preserved
 loop-t-preserved c =

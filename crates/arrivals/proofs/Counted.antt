@@ -3,15 +3,16 @@
 use Prim.Native.Nat.{ℕ, zero, suc, ◌+◌, ◌-◌, ◌%◌, ◌^◌, ◌≤◌, ◌<◌, max}
 use native.Mathlib.Nat.{le_of_eq, zero-div, le-max_left, le-max_right, max_comm}
 use native.Mathlib.Omega.{arith}
-use mathlib.Core.Bool.{Bool, true, false, true≢false, cond, ◌||◌, ◌&&◌, not, and-true, and-false, and-or_distrib_left}
+use mathlib.Core.Bool.{Bool, true, false, true≢false, cond, ◌||◌, ◌&&◌, not, and-false, and-or_distrib_left}
 use mathlib.Core.List.{List, [], ◌∷◌, ◌++◌, append_assoc, append-nil}
 use mathlib.Core.Logic.{⊎_elim}
 use mathlib.Core.Path.{◌≡◌, refl, sym, ◌∙◌, ap, ap₂, subst}
 use lib.Dec.{eqb, leb, ltb}
-use borrow.Author.Tests.{eqb-true, eqb-false, eq-eqb, ne_eqb, le-leb, lt-leb, lt-ltb, le-ltb, not-true}
+use borrow.Author.Tests.{eqb-true, eqb-false, ne_eqb, le-leb, le-ltb, not-true}
 use Rattle.refusal.specs.Order.{Res, refuse, accept}
 use Rattle.refusal.specs.Table.{among, unrepeated}
 use Rattle.octets.proofs.Equal.{and_inv}
+use Rattle.std.proofs.lemmas.Bool.Decides.{nat_tests}
 use Rattle.octets.proofs.Order.{lt_or_le}
 use Rattle.arrivals.specs.Marks.{mark_of, moved_up, count_below, count_of, marked}
 use Rattle.arrivals.specs.Take.{fresh, too_old, taken, take_of, kept_by}
@@ -47,22 +48,16 @@ lies_more k h (x ∷ xs) n = ap (λ (b : Bool). eqb (x + k) h || b) (lies_more k
     or_left false b c = refl
 
 -- the numbers that lie k below a higher one are those that lie so much less below the old one
+one-moved : (x k h t : ℕ) → x ≤ h → h ≤ t → (leb (t - h) k && eqb (x + (k - (t - h))) h) ≡ eqb (x + k) t
+one-moved x k h t b l = grind (arith, nat_tests)
+
 lies-moved : (ts : List ℕ) (k h t : ℕ) → highest_of ts ≤ h → h ≤ t → (leb (t - h) k && lies (k - (t - h)) h ts) ≡ lies k t ts
 unfolding highest_of
 lies-moved [] k h t b l = and-false (leb (t - h) k)
 lies-moved (x ∷ xs) k h t b l =
     and-or_distrib_left (leb (t - h) k) _ _
-    ∙ ap₂ (λ (y z : Bool). y || z) (⊎_elim past within (lt_or_le k (t - h))) (lies-moved xs k h t (omega (arith, b, le-max_right x (highest_of xs))) l)
-  where
-    past : k < t - h → (leb (t - h) k && eqb (x + (k - (t - h))) h) ≡ eqb (x + k) t
-    past f =
-        ap (λ (y : Bool). y && eqb (x + (k - (t - h))) h) (lt-leb (t - h) k f)
-        ∙ sym (ne_eqb (x + k) t (λ e. omega (arith, e, f, b, le-max_left x (highest_of xs))))
-
-    within : t - h ≤ k → (leb (t - h) k && eqb (x + (k - (t - h))) h) ≡ eqb (x + k) t
-    within f =
-        ap (λ (y : Bool). y && eqb (x + (k - (t - h))) h) (le-leb (t - h) k f)
-        ∙ eqb_same (x + (k - (t - h))) h (x + k) t (λ e. omega (arith, e, f, l)) (λ e. omega (arith, e, f, l))
+    ∙ ap₂ (λ (y z : Bool). y || z) (one-moved x k h t (omega (arith, b, le-max_left x (highest_of xs))) l)
+    (lies-moved xs k h t (omega (arith, b, le-max_right x (highest_of xs))) l)
 
 -- taking a number
 says-more : (a : Arrivals) (ts : List ℕ) (n : ℕ) → Says a ts → Says (taken a n) (ts ++ n ∷ [])
@@ -138,16 +133,15 @@ marked_taken ns m = ⊎_elim above (λ l. ⊎_elim far (within l) (lt_or_le 31 (
     Right = marked a m ≡ (among m ts && leb (highest_of ts) (m + 31))
 
     above : a.highest < m → Right
-    above l =
-        above_unmarked a m l ∙ sym (ap (λ (b : Bool). b && leb (highest_of ts) (m + 31)) (none_above m ts (omega (arith, e, l))))
+    above l = grind (arith, nat_tests, e, above_unmarked a m l, none_above m ts (omega (arith, e, l)))
 
     far : 31 < a.highest - m → Right
-    far l = below_unmarked a m l ∙ sym (ap (λ (b : Bool). among m ts && b) (lt-leb (highest_of ts) (m + 31) (omega (arith, e, l))) ∙ and-false (among m ts))
+    far l = grind (arith, nat_tests, e, below_unmarked a m l)
 
     within : m ≤ a.highest → a.highest - m ≤ 31 → Right
     within l g =
-        within_marked a m l g ∙ (says ns).marks (a.highest - m) (omega (arith, g)) ∙ lies_at m a.highest ts l ∙ sym (and-true (among m ts))
-        ∙ ap (λ (b : Bool). among m ts && b) (sym (le-leb (highest_of ts) (m + 31) (omega (arith, e, g))))
+        within_marked a m l g ∙ (says ns).marks (a.highest - m) (omega (arith, g)) ∙ lies_at m a.highest ts l
+        ∙ grind (arith, nat_tests, e)
 
 -- so a number that is not too old is refused where it was taken before, and is taken where it was not
 pub again : (ns : List ℕ) (m : ℕ) → too_old (after_all fresh ns) m ≡ false → among m (taken_of fresh ns) ≡ true → take_of (after_all fresh ns) m ≡ refuse 38 0
@@ -176,28 +170,13 @@ count_or f g (suc w) e = omega (arith, count_or f g w e, both (f w) (g w) (e w))
     both false b h = omega arith
 
 -- one number lies at one place
+one_more : (x h w : ℕ) → x ≤ h → cond (ltb (h - x) w) 1 0 + cond (eqb (x + w) h) 1 0 ≡ cond (ltb (h - x) (suc w)) 1 0
+one_more x h w l = grind (arith, nat_tests)
+
 count_one : (x h w : ℕ) → x ≤ h → count_below (λ k. eqb (x + k) h) w ≡ cond (ltb (h - x) w) 1 0
 unfolding count_below
 count_one x h zero l = sym (ap (λ (b : Bool). cond b 1 0) (le-ltb (h - x) 0 (omega arith)))
-count_one x h (suc w) l =
-    ap (λ (y : ℕ). y + cond (eqb (x + w) h) 1 0) (count_one x h w l) ∙ ⊎_elim passed (λ g. ⊎_elim before (here g) (lt_or_le w (h - x))) (lt_or_le (h - x) w)
-  where
-    Sum : Type 0
-    Sum = cond (ltb (h - x) w) 1 0 + cond (eqb (x + w) h) 1 0 ≡ cond (ltb (h - x) (suc w)) 1 0
-
-    sums : (b c d : Bool) → ltb (h - x) w ≡ b → eqb (x + w) h ≡ c → ltb (h - x) (suc w) ≡ d → cond b 1 0 + cond c 1 0 ≡ cond d 1 0 → Sum
-    sums b c d e f g s = ap₂ (λ (y z : Bool). cond y 1 0 + cond z 1 0) e f ∙ s ∙ ap (λ (y : Bool). cond y 1 0) (sym g)
-
-    passed : h - x < w → Sum
-    passed g = sums true false true (lt-ltb (h - x) w g) (ne_eqb (x + w) h (λ e. omega (arith, e, g, l))) (lt-ltb (h - x) (suc w) (omega arith)) refl
-
-    before : w < h - x → Sum
-    before g =
-        sums false false false (le-ltb (h - x) w (omega arith)) (ne_eqb (x + w) h (λ e. omega (arith, e, g, l))) (le-ltb (h - x) (suc w) (omega arith)) refl
-
-    here : w ≤ h - x → h - x ≤ w → Sum
-    here g f =
-        sums false true true (le-ltb (h - x) w g) (eq-eqb (x + w) h (omega (arith, f, g, l))) (lt-ltb (h - x) (suc w) (omega arith)) refl
+count_one x h (suc w) l = ap (λ (y : ℕ). y + cond (eqb (x + w) h) 1 0) (count_one x h w l) ∙ one_more x h w l
 
 or_none : (a b : Bool) → (a || b) ≡ false → (a ≡ false) × (b ≡ false)
 or_none true b e = absurd (true≢false e)
@@ -210,6 +189,9 @@ apart x k h (y ∷ ys) n e =
     let m = or_none (eqb x y) (among x ys) n in
     ap₂ (λ (b c : Bool). b || c) (ne_eqb (y + k) h (λ f. eqb-false x y m.0 (omega (arith, e, f)))) (apart x k h ys m.1 e)
 
+near : (x h : ℕ) → x ≤ h → ltb (h - x) 32 ≡ leb h (x + 31)
+near x h l = grind (arith, nat_tests)
+
 count_lies : (h : ℕ) (ts : List ℕ) → unrepeated ts ≡ true → highest_of ts ≤ h → count_below (λ k. lies k h ts) 32 ≡ last_of h ts
 unfolding last_of highest_of count_below
 count_lies h [] u b = none 32
@@ -221,12 +203,7 @@ count_lies h (x ∷ xs) u b =
     let m = and_inv (not (among x xs)) (unrepeated xs) u in
     let l : x ≤ h = omega (arith, b, le-max_left x (highest_of xs)) in
     count_or (λ k. eqb (x + k) h) (λ k. lies k h xs) 32 (λ k e. apart x k h xs (not-true (among x xs) m.0) (eqb-true (x + k) h e))
-    ∙ ap₂ ◌+◌ (count_one x h 32 l ∙ ap (λ (b : Bool). cond b 1 0) (near l)) (count_lies h xs m.1 (omega (arith, b, le-max_right x (highest_of xs))))
-  where
-    near : x ≤ h → ltb (h - x) 32 ≡ leb h (x + 31)
-    near l =
-        ⊎_elim (λ f. lt-ltb (h - x) 32 f ∙ sym (le-leb h (x + 31) (omega arith))) (λ f. le-ltb (h - x) 32 f ∙ sym (lt-leb h (x + 31) (omega arith)))
-        (lt_or_le (h - x) 32)
+    ∙ ap₂ ◌+◌ (count_one x h 32 l ∙ ap (λ (b : Bool). cond b 1 0) (near x h l)) (count_lies h xs m.1 (omega (arith, b, le-max_right x (highest_of xs))))
 
 -- the count of the marks is how many numbers among the last 32 were taken
 pub count_taken : (ns : List ℕ) → count_of (after_all fresh ns) ≡ last_of (highest_of (taken_of fresh ns)) (taken_of fresh ns)

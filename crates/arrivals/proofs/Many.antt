@@ -2,15 +2,16 @@
 use Prim.Native.Nat.{ℕ, ◌+◌, ◌≤◌, ◌<◌}
 use native.Mathlib.Nat.{le-max_left}
 use native.Mathlib.Omega.{arith}
-use mathlib.Core.Bool.{Bool, true, false, true≢false, ◌||◌, ◌&&◌, not, or-true}
+use mathlib.Core.Bool.{Bool, true, false, true≢false, ◌||◌, ◌&&◌, not}
 use mathlib.Core.List.{List, [], ◌∷◌}
 use mathlib.Core.Logic.{inl, inr, ⊎_elim}
 use mathlib.Core.Path.{◌≡◌, refl, sym, ◌∙◌, ap, ap₂, subst}
-use lib.Dec.{eqb, leb, ltb}
-use borrow.Author.Tests.{eq-eqb, ne_eqb, le-leb, lt-ltb, ltb-true}
+use lib.Dec.{eqb}
+use borrow.Author.Tests.{ne_eqb}
 use Rattle.refusal.specs.Order.{Res}
 use Rattle.refusal.specs.Table.{among, unrepeated}
-use Rattle.octets.proofs.Order.{by_cases, lt_or_le}
+use Rattle.std.proofs.lemmas.Bool.Decides.{nat_tests}
+use Rattle.octets.proofs.Order.{lt_or_le}
 use Rattle.arrivals.specs.Marks.{marked}
 use Rattle.arrivals.specs.Take.{too_old, taken, take_of, kept_by}
 use Rattle.arrivals.specs.Many.{Barred, with_taken, taken_of}
@@ -20,27 +21,20 @@ use Rattle.arrivals.proofs.Steps.{Tried, old, seen_before, new, tried, top_after
 -- what is too old stays so as the highest number rises
 older : (a b : Arrivals) (n : ℕ) → a.highest ≤ b.highest → too_old a n ≡ true → too_old b n ≡ true
 unfolding too_old
-older a b n h e =
-    by_cases (eqb n 0) (λ z. ap (λ (x : Bool). x || ltb (n + 31) b.highest) z)
-    (λ z. ap₂ (λ (x w : Bool). x || w) z (lt-ltb (n + 31) b.highest (older_lt z)))
-  where
-    older_lt : eqb n 0 ≡ false → n + 31 < b.highest
-    older_lt z = let l : n + 31 < a.highest = ltb-true _ _ (sym (ap (λ (x : Bool). x || ltb (n + 31) a.highest) z) ∙ e) in omega arith
+older a b n h e = grind (arith, nat_tests)
 
 far_old : (a : Arrivals) (n : ℕ) → n + 31 < a.highest → too_old a n ≡ true
 unfolding too_old
-far_old a n h = ap (λ (b : Bool). eqb n 0 || b) (lt-ltb (n + 31) a.highest h) ∙ or-true (eqb n 0)
+far_old a n h = grind (arith, nat_tests)
 
 -- one that is taken is barred, and one that is barred stays so
 taken_barred : (a : Arrivals) (n : ℕ) → too_old a n ≡ false → Barred (taken a n) n
-taken_barred a n o = inl (marks_after a n n o ∙ ap (λ (x : Bool). x || (marked a n && leb (taken a n).highest (n + 31))) (eq-eqb n n refl))
+taken_barred a n o = inl (grind (arith, nat_tests, marks_after a n n o))
 
 still_barred : (a : Arrivals) (n m : ℕ) → too_old a n ≡ false → Barred a m → Barred (taken a n) m
 still_barred a n m o (inr e) = inr (older a (taken a n) m (omega (arith, top_after a n, le-max_left a.highest n)) e)
 still_barred a n m o (inl e) =
-    ⊎_elim (λ l. inr (far_old (taken a n) m l))
-    (λ l. inl (marks_after a n m o ∙ ap₂ (λ (x z : Bool). eqb m n || (x && z)) e (le-leb (taken a n).highest (m + 31) l) ∙ or-true (eqb m n)))
-    (lt_or_le (m + 31) (taken a n).highest)
+    ⊎_elim (λ l. inr (far_old (taken a n) m l)) (λ l. inl (grind (arith, nat_tests, marks_after a n m o))) (lt_or_le (m + 31) (taken a n).highest)
 
 -- a number that a record marks, or that is too old for it, is taken at no time
 pub never : (a : Arrivals) (ns : List ℕ) (m : ℕ) → Barred a m → among m (taken_of a ns) ≡ false

@@ -2,19 +2,19 @@
 use Prim.Native.Nat.{ℕ, ◌+◌, ◌-◌, ◌≤◌, ◌<◌, max}
 use native.Mathlib.Nat.{max-eq_left, max-eq_right, le-max_left, le_of_lt}
 use native.Mathlib.Omega.{arith}
-use mathlib.Core.Bool.{Bool, true, false, ◌||◌, ◌&&◌, and-false, and-true}
+use mathlib.Core.Bool.{true, false, ◌||◌, ◌&&◌}
 use mathlib.Core.Logic.{◌⊎◌, inl, inr, ⊎_elim}
-use mathlib.Core.Path.{◌≡◌, refl, sym, ◌∙◌, ap, ap₂, subst}
+use mathlib.Core.Path.{◌≡◌, refl, sym, ◌∙◌, ap, subst}
 use lib.Dec.{eqb, leb}
-use borrow.Author.Tests.{ne_eqb, le-leb, lt-leb}
 use Rattle.refusal.specs.Order.{Res, refuse, accept}
 use Rattle.refusal.proofs.Order.{refuse≢accept}
+use Rattle.std.proofs.lemmas.Bool.Decides.{nat_tests}
 use Rattle.octets.proofs.Order.{by_cases, lt_or_le}
 use Rattle.arrivals.specs.Marks.{mark_of, moved_up, marked}
 use Rattle.arrivals.specs.Take.{too_old, taken, take_of, kept_by}
 use Rattle.arrivals.specs.declared.Arrivals.{Arrivals}
 use Rattle.arrivals.proofs.Bits.{mark_bits}
-use Rattle.arrivals.proofs.Taking.{above_unmarked, below_unmarked, within_marked, young, eqb_same, old_above, taken_above, moved_far}
+use Rattle.arrivals.proofs.Taking.{above_unmarked, below_unmarked, within_marked, young, old_above, taken_above, moved_far}
 use Rattle.arrivals.proofs.Promised.{take_old, take-marked, take_new}
 
 -- what taking a number does, by the two tests
@@ -50,19 +50,11 @@ mark_after a n k h = mark_bits (λ k. eqb (n + k) (max a.highest n) || moved_up 
 
 -- a number's mark, where the highest number has risen to t
 mark_kept : (a : Arrivals) (m t : ℕ) → a.highest ≤ t → m ≤ t → t - m ≤ 31 → moved_up a.seen (t - a.highest) (t - m) ≡ marked a m
-unfolding moved_up
-mark_kept a m t h l g = ⊎_elim higher not_higher (lt_or_le a.highest m)
+unfolding moved_up marked
+mark_kept a m t h l g = ⊎_elim (λ f. grind (arith, nat_tests)) (λ f. grind (arith, nat_tests, ap (mark_of a.seen) (mark_place a m t h f))) (lt_or_le a.highest m)
   where
-    moved : Bool → Bool
-    moved b = b && mark_of a.seen (t - m - (t - a.highest))
-
-    higher : a.highest < m → moved (leb (t - a.highest) (t - m)) ≡ marked a m
-    higher f = ap moved (lt-leb (t - a.highest) (t - m) (omega arith)) ∙ sym (above_unmarked a m f)
-
-    not_higher : m ≤ a.highest → moved (leb (t - a.highest) (t - m)) ≡ marked a m
-    not_higher f =
-        let e : t - m - (t - a.highest) ≡ a.highest - m = omega arith in
-        ap moved (le-leb (t - a.highest) (t - m) (omega arith)) ∙ ap (mark_of a.seen) e ∙ sym (within_marked a m f (omega arith))
+    mark_place : (a : Arrivals) (m t : ℕ) → a.highest ≤ t → m ≤ a.highest → t - m - (t - a.highest) ≡ a.highest - m
+    mark_place a m t h f = omega arith
 
 -- what the record says of a number m once n is taken: m is n, or was marked before and is still among the last 32
 pub marks_after : (a : Arrivals) (n m : ℕ) → too_old a n ≡ false
@@ -78,27 +70,19 @@ marks_after a n m o = ⊎_elim above (λ l. ⊎_elim far (within l) (lt_or_le 31
     y : (n ≡ 0 → ⊥) × (a.highest ≤ n + 31)
     y = young a n o
 
-    said : Bool → Bool → Bool → Bool
-    said x z w = x || (z && w)
+    Says : Type 0
+    Says = marked (taken a n) m ≡ (eqb m n || (marked a m && leb t (m + 31)))
 
-    above : t < m → marked (taken a n) m ≡ said (eqb m n) (marked a m) (leb t (m + 31))
-    above l =
-        above_unmarked (taken a n) m l
-        ∙ sym (ap₂ (λ (x z : Bool). said x z (leb t (m + 31))) (ne_eqb m n (λ f. omega (arith, e, l))) (above_unmarked a m (omega (arith, e, l))))
+    above : t < m → Says
+    above l = grind (arith, nat_tests, e, above_unmarked (taken a n) m l, above_unmarked a m (omega (arith, e, l)))
 
-    far : 31 < t - m → marked (taken a n) m ≡ said (eqb m n) (marked a m) (leb t (m + 31))
-    far l =
-        below_unmarked (taken a n) m l
-        ∙ sym (ap₂ (λ (x z : Bool). said x (marked a m) z) (ne_eqb m n (λ f. omega (arith, e, l, y.1))) (lt-leb t (m + 31) (omega (arith, l)))
-        ∙ and-false (marked a m))
+    far : 31 < t - m → Says
+    far l = grind (arith, nat_tests, e, y.1, below_unmarked (taken a n) m l)
 
-    within : m ≤ t → t - m ≤ 31 → marked (taken a n) m ≡ said (eqb m n) (marked a m) (leb t (m + 31))
+    within : m ≤ t → t - m ≤ 31 → Says
     within l g =
         within_marked (taken a n) m l g ∙ mark_after a n (t - m) (omega (arith, g))
-        ∙ ap₂ (λ (x z : Bool). x || z)
-        (eqb_same (n + (t - m)) (max a.highest n) m n (λ f. omega (arith, e, l, f)) (λ f. omega (arith, e, l, f)))
-        (ap (λ (x : ℕ). moved_up a.seen (x - a.highest) (t - m)) (sym e) ∙ mark_kept a m t (omega (arith, e, le-max_left a.highest n)) l g
-        ∙ sym (ap (λ (z : Bool). marked a m && z) (le-leb t (m + 31) (omega (arith, g))) ∙ and-true (marked a m)))
+        ∙ grind (arith, nat_tests, e, mark_kept a m (max a.highest n) (le-max_left a.highest n) (omega (arith, e, l)) (omega (arith, e, g)))
 
 -- a higher number is taken, and the record moves up to it
 pub higher : (a : Arrivals) (n : ℕ) → a.highest < n → (take_of a n ≡ accept (taken a n)) × ((taken a n).highest ≡ n)

@@ -2,14 +2,15 @@
 use Prim.Native.Nat.{ℕ, ◌+◌, ◌-◌, ◌*◌, ◌%◌, ◌^◌, ◌<◌, ◌≤◌, max}
 use native.Mathlib.Nat.{max-eq_left, max-eq_right, mod-lt, le_of_lt}
 use native.Mathlib.Omega.{arith}
-use mathlib.Core.Bool.{Bool, false, ◌||◌, ◌&&◌, true≢false, or-false, or_comm, and-false}
+use mathlib.Core.Bool.{Bool, false, ◌||◌, ◌&&◌, or-false, or_comm}
 use mathlib.Core.Logic.{⊎_elim}
 use mathlib.Core.Path.{◌≡◌, sym, ◌∙◌, ap, ap₂}
 use lib.Bits.{bit_or, or_lt}
-use lib.Dec.{eqb, leb, ltb, lit<}
+use lib.Dec.{eqb, leb, lit<}
 use lib.Pow.{pow_pos}
-use borrow.Author.Tests.{eqb-false, ltb-false, eq-eqb, ne_eqb, le-leb, lt-leb, lt-ltb, le-ltb}
-use Rattle.octets.proofs.Order.{by_cases, eq_or_not, lt_or_le}
+use borrow.Author.Tests.{ne_eqb, le-leb, lt-leb}
+use Rattle.std.proofs.lemmas.Bool.Decides.{nat_tests}
+use Rattle.octets.proofs.Order.{lt_or_le}
 use Rattle.arrivals.specs.Marks.{mark_of, moved_up, bits_of, marked}
 use Rattle.arrivals.specs.Take.{too_old, taken}
 use Rattle.arrivals.specs.declared.Arrivals.{Arrivals}
@@ -17,34 +18,31 @@ use Rattle.arrivals.proofs.Bits.{bits_known, bits_agree, mark_or, mark_shifted, 
 
 -- two tests of numbers that hold together are one test
 pub eqb_same : (a b c d : ℕ) → (a ≡ b → c ≡ d) → (c ≡ d → a ≡ b) → eqb a b ≡ eqb c d
-eqb_same a b c d f g = ⊎_elim (λ e. eq-eqb a b e ∙ sym (eq-eqb c d (f e))) (λ n. ne_eqb a b n ∙ sym (ne_eqb c d (λ e. n (g e)))) (eq_or_not a b)
+eqb_same a b c d f g = grind (arith, nat_tests)
 
 -- a number not below the highest is not too old
 pub old_above : (a : Arrivals) (n : ℕ) → (n ≡ 0 → ⊥) → a.highest ≤ n → false ≡ too_old a n
 unfolding too_old
-old_above a n e h = sym (ap (λ (b : Bool). b || ltb (n + 31) a.highest) (ne_eqb n 0 e) ∙ le-ltb (n + 31) a.highest (omega arith))
+old_above a n e h = grind (arith, nat_tests)
 
 -- what a number that is not too old is
 pub young : (a : Arrivals) (n : ℕ) → too_old a n ≡ false → (n ≡ 0 → ⊥) × (a.highest ≤ n + 31)
 unfolding too_old
-young a n e =
-    by_cases (eqb n 0) (λ f. absurd (true≢false (sym (ap (λ (b : Bool). b || ltb (n + 31) a.highest) f) ∙ e)))
-    (λ f. (eqb-false n 0 f, ltb-false (n + 31) a.highest (sym (ap (λ (b : Bool). b || ltb (n + 31) a.highest) f) ∙ e)))
+young a n e = (grind (arith, nat_tests), grind (arith, nat_tests))
 
 -- a higher number is not marked
 pub above_unmarked : (a : Arrivals) (n : ℕ) → a.highest < n → marked a n ≡ false
 unfolding marked
-above_unmarked a n h = ap (λ (b : Bool). b && (ltb (a.highest - n) 32 && mark_of a.seen (a.highest - n))) (lt-leb n a.highest h)
+above_unmarked a n h = grind (arith, nat_tests)
 
 -- nor is one too far below
 pub below_unmarked : (a : Arrivals) (n : ℕ) → 31 < a.highest - n → marked a n ≡ false
 unfolding marked
-below_unmarked a n h =
-    ap (λ (b : Bool). leb n a.highest && (b && mark_of a.seen (a.highest - n))) (le-ltb (a.highest - n) 32 h) ∙ and-false (leb n a.highest)
+below_unmarked a n h = grind (arith, nat_tests)
 
 pub within_marked : (a : Arrivals) (n : ℕ) → n ≤ a.highest → a.highest - n ≤ 31 → marked a n ≡ mark_of a.seen (a.highest - n)
 unfolding marked
-within_marked a n h g = ap₂ (λ (b c : Bool). b && (c && mark_of a.seen (a.highest - n))) (le-leb n a.highest h) (lt-ltb (a.highest - n) 32 (omega arith))
+within_marked a n h g = grind (arith, nat_tests)
 
 -- a record that has the highest number and the marks is the one
 made : (a : Arrivals) (n : ℕ) (x : Arrivals) → x.highest ≡ max a.highest n

@@ -1,22 +1,27 @@
 // Cases for the writers: each writes into the start of 64 bytes AA, of which the first ones are lent.
-use crate::print;
-use crate::print::Told;
+use crate::rows::{Told, show_hex};
 use messages::auth::{AuthenticationAlgorithm, ConfidentialityAlgorithm, IntegrityAlgorithm};
-use messages::open_session::{OpenSessionRequest, RequestedPrivilege};
-use messages::rakp::Written;
+use messages::open_session::OpenSessionRequest;
 use messages::rakp_1::{RakpMessage1, Username};
 use messages::rakp_3::RakpMessage3;
+use refusal::Refusal;
 use std::io;
 
-pub const REQUEST: u8 = 16;
+// What is written: the request for a level, message 1 with a name of a length, message 3 with a code of a length or declining.
+#[derive(Clone, Copy)]
+pub enum Writer {
+    Request(Option<u8>),
+    One(usize),
+    Three(usize),
+    Declined,
+}
 
-pub const MESSAGE_1: u8 = 17;
+const MESSAGE_3: RakpMessage3 = RakpMessage3 {
+    tag: 0x0a,
+    system: 0x2f590161,
+};
 
-pub const MESSAGE_3: u8 = 18;
-
-pub const DECLINED: u8 = 19;
-
-fn make_request(level: RequestedPrivilege) -> OpenSessionRequest {
+fn make_request(level: Option<u8>) -> OpenSessionRequest {
     OpenSessionRequest {
         tag: 0,
         level,
@@ -44,77 +49,45 @@ fn make_message_1(len: usize) -> RakpMessage1 {
     }
 }
 
-fn make_message_3() -> RakpMessage3 {
-    RakpMessage3 {
-        tag: 0x0a,
-        system: 0x2f590161,
-    }
-}
-
-fn write_kind(kind: u8, at: usize, out: &mut [u8]) -> Written {
-    if kind == REQUEST {
-        if at == 0 {
-            return make_request(RequestedPrivilege::None).write_data(out);
+impl Writer {
+    fn write(self, out: &mut [u8]) -> Result<usize, Refusal> {
+        match self {
+            Writer::Request(level) => make_request(level).write_data(out),
+            Writer::One(len) => make_message_1(len).write(out),
+            Writer::Three(len) => MESSAGE_3.write(&[0x5cu8; 32][..len.min(32)], out),
+            Writer::Declined => MESSAGE_3.decline(out),
         }
-        return make_request(RequestedPrivilege::Level(3)).write_data(out);
     }
-    if kind == MESSAGE_1 {
-        return make_message_1(at).write(out);
-    }
-    if kind == MESSAGE_3 {
-        if at == 20 {
-            return make_message_3().write(&[0x5cu8; 20], out);
+
+    // The answer with room for n bytes: the refusal's number and the bytes changed, or the length told; 999 where that is not the number
+    // of bytes changed.
+    pub fn tell(self, n: u8) -> Told {
+        let mut out = [0xaau8; 64];
+        let room = usize::from(n).min(64);
+        let answer = self.write(&mut out[..room]);
+        let changed = out.iter().filter(|b| **b != 0xaa).count();
+        match answer {
+            Err(r) => Told::new(n, u16::from(r.number()), changed),
+            Ok(len) => Told::new(n, if len == changed { 0 } else { 999 }, len),
         }
-        return make_message_3().write(&[0x5cu8; 32], out);
-    }
-    make_message_3().decline(out)
-}
-
-// How many of the bytes are not AA.
-fn count_changed(s: &[u8]) -> usize {
-    s.iter().filter(|b| **b != 0xaa).count()
-}
-
-fn try_write(kind: u8, at: usize, out: &mut [u8], n: usize) -> Written {
-    if n < out.len() {
-        return write_kind(kind, at, &mut out[..n]);
-    }
-    write_kind(kind, at, out)
-}
-
-// The writer of a kind with room for n bytes: the refusal's number and the bytes changed, or the length told; 999 where that is not
-// the number of bytes changed.
-pub fn try_case(kind: u8, at: usize, n: usize) -> Told {
-    let mut out = [0xaau8; 64];
-    let answer = try_write(kind, at, &mut out, n);
-    let k = count_changed(&out);
-    match answer {
-        Written::Refused(r) => Told {
-            number: r.number() as u64,
-            value: k as u64,
-        },
-        Written::Bytes(m) => Told {
-            number: if m == k { 0 } else { 999 },
-            value: m as u64,
-        },
     }
 }
 
 // The whole of the 64 bytes after a message was written.
-fn show_written(rt: &impl Print, label: &[u8], kind: u8, at: usize) -> io::Result<()> {
+fn show_written(rt: &impl Print, label: &str, writer: Writer) -> io::Result<()> {
     let mut out = [0xaau8; 64];
-    write_kind(kind, at, &mut out);
-    rt.write_all(label)?;
-    print::show_hex(rt, &out)?;
+    let _ = writer.write(&mut out);
+    print!(rt; "{label}: ")?;
+    show_hex(rt, &out)?;
     println!(rt)
 }
 
 pub fn show_cases(rt: &impl Print) -> io::Result<()> {
-    show_written(rt, b"open request, level 3: ", REQUEST, 1)?;
-    show_written(rt, b"open request, no level: ", REQUEST, 0)?;
-    show_written(rt, b"message 1: ", MESSAGE_1, 4)?;
-    show_written(rt, b"message 1, name of 16: ", MESSAGE_1, 16)?;
-    show_written(rt, b"message 1, name length 17: ", MESSAGE_1, 17)?;
-    show_written(rt, b"message 3: ", MESSAGE_3, 20)?;
-    show_written(rt, b"message 3, declining: ", DECLINED, 0)
+    show_written(rt, "open request, level 3", Writer::Request(Some(3)))?;
+    show_written(rt, "open request, no level", Writer::Request(None))?;
+    show_written(rt, "message 1", Writer::One(4))?;
+    show_written(rt, "message 1, name of 16", Writer::One(16))?;
+    show_written(rt, "message 1, name length 17", Writer::One(17))?;
+    show_written(rt, "message 3", Writer::Three(20))?;
+    show_written(rt, "message 3, declining", Writer::Declined)
 }

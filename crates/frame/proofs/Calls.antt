@@ -10,8 +10,10 @@ use mir.Syntax.{w8, w32}
 use mir.Val.{Fits}
 use borrow.Author.Rules.{rules}
 use borrow.Fn.Kinds.{Dens, GoodsP}
+use Rattle.std.specs.Prelude.{Result, Ok}
 use Rattle.refusal.specs.Call.{Call}
 use Rattle.refusal.specs.Order.{Res, accept}
+use Rattle.refusal.specs.declared.Refusal.{Refusal}
 use Rattle.refusal.proofs.Order.{accept_inj, then_inv}
 use Rattle.octets.specs.Bytes.{Bytes}
 use Rattle.octets.proofs.Place.{begun_take}
@@ -35,8 +37,6 @@ use Rattle.suite.specs.declared.PayloadType.TheVariants.{RakpMessage1, RakpMessa
 use Rattle.suite.specs.Types.{type_number}
 use Rattle.suite.proofs.Suites.{suite_laws, suite_lengths}
 use Rattle.writer.specs.Answers.{written_told, WritePromise}
-use Rattle.writer.specs.declared.Written.{Written}
-use Rattle.writer.specs.declared.Written.TheVariants.{Length}
 use Rattle.writer.proofs.write_payload.Kinds as write-payload-kinds
 use Rattle.writer.proofs.write_payload.Reads as write-payload-reads
 use Rattle.writer.proofs.write_datagram.Kinds as write-datagram-kinds
@@ -91,7 +91,7 @@ abbrev pub seen_read_datagram : ReadDatagramCall → ReadSeen
 seen_read_datagram c = record { session = c.args.0; lent = c.args.1.0.now; answer = c.answer.answer; left = c.exit.1.0.now }
 
 -- the arguments of both write calls have the same kinds: session, type, id, number, payload, IV, output
-abbrev pub seen_arguments : (κs : _) → Dens κs write-payload-kinds.ps → Written → List ℕ → WriteSeen
+abbrev pub seen_arguments : (κs : _) → Dens κs write-payload-kinds.ps → Result ℕ Refusal → List ℕ → WriteSeen
 seen_arguments κs args answer left =
     record {
       session = args.0;
@@ -144,7 +144,7 @@ module _ (c : ReadDatagramCall) where
       ∙ datagram_payload S L M d.lent ((e M).0 f))
 
 -- what a writer told the length of is what it wrote
-wrote : (R : Res (List ℕ)) (out : List ℕ) (w : Written) (n : ℕ) (exit : List ℕ) → w ≡ Length n → WritePromise R out w exit → R ≡ accept (take n exit)
+wrote : (R : Res (List ℕ)) (out : List ℕ) (w : Result ℕ Refusal) (n : ℕ) (exit : List ℕ) → w ≡ Ok n → WritePromise R out w exit → R ≡ accept (take n exit)
 unfolding counted
 wrote R out w n exit e p =
     let t = then_inv R _ n (sym p.answer ∙ ap written_told e) in

@@ -4,6 +4,7 @@ use mathlib.Core.List.{List}
 use mathlib.Core.Logic.{◌↔◌}
 use mathlib.Core.Path.{◌≡◌, refl, sym, ◌∙◌, ap, subst}
 use lib.ListN.{length}
+use Rattle.std.specs.Prelude.{Result, Ok, Err}
 use Rattle.refusal.specs.declared.Refusal.{Refusal}
 use Rattle.refusal.specs.Order.{Res, refuse, accept}
 use Rattle.refusal.proofs.Order.{accept_inj, refuse≢accept, then_inv, then_refuse, then_accept}
@@ -13,27 +14,26 @@ use Rattle.framing.specs.Frames.{Only}
 use Rattle.framing.proofs.Exactly.{refuses_none, accepts_only}
 use Rattle.suite.specs.declared.PayloadType.{PayloadType}
 use Rattle.reader.specs.Answers.{read_told}
-use Rattle.reader.specs.declared.Reading.{Reading}
-use Rattle.reader.specs.declared.Reading.TheVariants.{Accepted, Refused}
+use Rattle.reader.specs.declared.Accepted.{Accepted}
 use Rattle.reader.proofs.Only.{reading_one}
 use Rattle.frame.specs.Exact.{WriteSeen, message_told, Exact, ReadBack}
 
-module _ (R : Res Message) (answer : Reading) (told : read_told answer ≡ shown R) where
+module _ (R : Res Message) (answer : Result Accepted Refusal) (told : read_told answer ≡ shown R) where
   -- a refusal is answered exactly where one was found
-  refused_found : ((r : Refusal) × (answer ≡ Refused r)) ↔ ((n : ℕ) × (v : ℕ) × (R ≡ refuse n v))
+  refused_found : ((r : Refusal) × (answer ≡ Err r)) ↔ ((n : ℕ) × (v : ℕ) × (R ≡ refuse n v))
   unfolding shown
   refused_found = (λ e. found R refl e, λ f. answered answer refl (told ∙ then_refuse R _ _ _ f.2))
     where
-      found : (x : Res Message) → R ≡ x → ((r : Refusal) × (answer ≡ Refused r)) → (n : ℕ) × (v : ℕ) × (R ≡ refuse n v)
+      found : (x : Res Message) → R ≡ x → ((r : Refusal) × (answer ≡ Err r)) → (n : ℕ) × (v : ℕ) × (R ≡ refuse n v)
       found (refuse n v) f e = (n, v, f)
       found (accept M) f e = absurd (refuse≢accept _ _ _ (sym (ap read_told e.1) ∙ told ∙ then_accept R _ M f))
 
-      answered : (x : Reading) → answer ≡ x → {n v : ℕ} → read_told answer ≡ refuse n v → (r : Refusal) × (answer ≡ Refused r)
-      answered (Refused r) f g = (r, f)
-      answered (Accepted t i q n) f g = absurd (refuse≢accept _ _ _ (sym g ∙ ap read_told f))
+      answered : (x : Result Accepted Refusal) → answer ≡ x → {n v : ℕ} → read_told answer ≡ refuse n v → (r : Refusal) × (answer ≡ Err r)
+      answered (Err r) f g = (r, f)
+      answered (Ok a) f g = absurd (refuse≢accept _ _ _ (sym g ∙ ap read_told f))
 
   -- an answer that accepts tells the message found
-  message_found : (t : PayloadType) (i q n : ℕ) → answer ≡ Accepted t i q n
+  message_found : (t : PayloadType) (i q n : ℕ) → answer ≡ Ok (record { ty = t; session_id = i; session_sequence_number = q; len = n })
       → (M : Message) × (R ≡ accept M) × (length M.payload ≡ n) × (message_told t i q M.payload ≡ M)
   unfolding shown
   message_found t i q n e =

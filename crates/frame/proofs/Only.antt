@@ -3,7 +3,7 @@ use Prim.Native.Nat.{ℕ}
 use mathlib.Core.List.{List}
 use mathlib.Core.Path.{◌≡◌, sym, ◌∙◌}
 use Rattle.refusal.specs.Order.{Res}
-use Rattle.refusal.proofs.Told.{outcome_one}
+use Rattle.refusal.proofs.Answer.{outcome_one}
 use Rattle.framing.specs.Packet.{Message}
 use Rattle.reader.specs.declared.Read.{Read}
 use Rattle.reader.proofs.Only.{tells_one}

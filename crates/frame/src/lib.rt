@@ -6,6 +6,6 @@ mod place;
 
 pub use opening::{check_outer, open_in_place, read_datagram, read_payload};
 pub use place::payload;
-pub use reader::{Read, Reading, read_checked, read_with_code};
+pub use reader::{Accepted, Read, read_checked, read_with_code};
 pub use suite::{Confidentiality, Integrity, PayloadType, SubState, code_len, encrypts};
-pub use writer::{Written, write_datagram, write_payload};
+pub use writer::{write_datagram, write_payload};

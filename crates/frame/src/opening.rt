@@ -3,50 +3,31 @@ ghost use Rattle.std.specs.Prelude.{◌≡◌, cond, ◌+◌, ◌-◌, ◌%◌, 
 ghost use Rattle.octets.specs.Bytes.{Bytes};
 ghost use Rattle.octets.specs.Place.{part, pasted};
 ghost use Rattle.cbc.specs.Cbc.{cbc_decrypt};
-ghost use Rattle.framing.specs.Read.{body_length, read_of, openable, opened, left_of, blocks_of, accepts};
+ghost use Rattle.framing.specs.Read.{body_length, read_of, openable, opened, left_of, blocks_of};
 ghost use Rattle.framing.specs.Outer.{outer_of, read_datagram_of, left_datagram, blocks_datagram};
 ghost use Rattle.suite.specs.Session.{suite_of};
-ghost use Rattle.refusal.specs.Outcome.{told};
-ghost use Rattle.reader.specs.Answers.{read_told};
+ghost use Rattle.refusal.specs.Answer.{told};
 ghost use Rattle.frame.specs.Answers.{ReadPromise};
 
-use reader::{Read, Reading};
-use refusal::{Outcome, Refusal};
+use reader::Read;
+use refusal::Refusal;
 use suite::SubState;
 
-fn is_accepted(a: Reading) -> bool
-    ensures { result ≡ accepts (read_told a) }
-{
-    match a {
-        Reading::Accepted {
-            ty: _,
-            session_id: _,
-            session_sequence_number: _,
-            len: _,
-        } => true,
-        Reading::Refused(_) => false,
-    }
-}
-
 // Whether a packet has an encrypted body that lies within it.
+#[tactic(auto, unfolding(framing::specs::Read::openable))]
 fn is_openable(packet: &[u8]) -> bool
     ensures { result ≡ openable packet.now }
 {
     let n = octets::load_le2(packet, 10) as usize;
-    if n < 16 {
-        return false;
-    }
-    if (n - 16) % 16 != 0 {
-        return false;
-    }
-    12 + n <= packet.len()
+    16 <= n && (n - 16) % 16 == 0 && 12 + n <= packet.len()
 }
 
+// Whole blocks are never refused.
 fn decrypt(key: [u8; 16], iv: [u8; 16], s: &mut [u8])
     requires { length s.old % 16 ≡ 0 }
     ensures { s.new ≡ cbc_decrypt key iv s.old }
 {
-    cbc::cbc_decrypt(key, iv, s);
+    let _ = cbc::cbc_decrypt(key, iv, s);
 }
 
 // The part between the IV and the trailer is decrypted in its place.
@@ -56,11 +37,9 @@ fn decrypt_body(s: SubState, packet: &mut [u8])
         ((suite_of s).dec (part packet.old 12 16) (part packet.old 28 (body_length packet.old - 16))) }
 {
     let n = octets::load_le2(packet, 10) as usize;
-    let iv = octets::block(packet, 12);
-    let keys = s.keys;
-    let key = keys.aes_key();
+    let iv = octets::cut(packet, 12);
     let end = 12 + n;
-    decrypt(key, iv, &mut packet[28..end]);
+    decrypt(s.keys.aes_key(), iv, &mut packet[28..end]);
 }
 
 // Opens a packet in its own buffer. Without AES, and where the packet has no such body, nothing changes. It checks nothing else: a
@@ -68,14 +47,9 @@ fn decrypt_body(s: SubState, packet: &mut [u8])
 pub fn open_in_place(s: SubState, packet: &mut [u8])
     ensures { packet.new ≡ cond (openable packet.old) (opened (suite_of s) packet.old) packet.old }
 {
-    let c = s.confidentiality;
-    if !suite::encrypts(c) {
-        return;
+    if suite::encrypts(s.confidentiality) && is_openable(packet) {
+        decrypt_body(s, packet);
     }
-    if !is_openable(packet) {
-        return;
-    }
-    decrypt_body(s, packet);
 }
 
 // Reads a packet of a session.
@@ -85,25 +59,23 @@ pub fn read_payload(s: SubState, packet: &mut [u8]) -> Read
     ensures bytes { Bytes packet.old }
 {
     let r = reader::read_checked(s, packet);
-    let a = r.answer;
-    if is_accepted(a) {
+    if r.answer.is_ok() {
         open_in_place(s, packet);
     }
     r
 }
 
 // Whether a datagram begins with the four outer bytes, behind which a packet stands.
-pub fn check_outer(datagram: &[u8]) -> Outcome
+pub fn check_outer(datagram: &[u8]) -> Result<(), Refusal>
     ensures { told result ≡ outer_of datagram.now }
 {
     if datagram.len() < 4 {
-        return Outcome::Refused(Refusal::NotEnoughData);
+        return Err(Refusal::NotEnoughData);
     }
-    let outer = suite::OUTER;
-    if !octets::same(&datagram[..4], &outer) {
-        return Outcome::Refused(Refusal::NotRmcpForIpmi);
+    if !octets::same(&datagram[..4], &suite::OUTER) {
+        return Err(Refusal::NotRmcpForIpmi);
     }
-    Outcome::Done
+    Ok(())
 }
 
 // Reads a datagram: the four outer bytes, then a packet.
@@ -112,12 +84,11 @@ pub fn read_datagram(s: SubState, datagram: &mut [u8]) -> Read
         (blocks_datagram (suite_of s) datagram.old) (left_datagram (suite_of s) datagram.old) result datagram.new }
     ensures bytes { Bytes datagram.old }
 {
-    let o = check_outer(datagram);
-    match o {
-        Outcome::Refused(r) => Read {
-            answer: Reading::Refused(r),
+    match check_outer(datagram) {
+        Err(r) => Read {
+            answer: Err(r),
             blocks: 0,
         },
-        Outcome::Done => read_payload(s, &mut datagram[4..]),
+        Ok(()) => read_payload(s, &mut datagram[4..]),
     }
 }

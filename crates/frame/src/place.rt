@@ -15,13 +15,8 @@ pub fn payload(packet: &[u8], encrypted: bool, len: usize) -> &[u8]
         × (result.ref_ptr.0 ≡ packet.entry.ref_ptr.0) × (result.ref_ptr.1 ≡ packet.entry.ref_ptr.1 + payload_at packet.now encrypted len) }
 {
     let start = find_start(encrypted);
-    if start <= packet.len() {
-        if len <= packet.len() - start {
-            let end = start + len;
-            &packet[start..end]
-        } else {
-            &packet[..0]
-        }
+    if start <= packet.len() && len <= packet.len() - start {
+        &packet[start..start + len]
     } else {
         &packet[..0]
     }

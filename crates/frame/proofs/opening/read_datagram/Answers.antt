@@ -1,7 +1,7 @@
 -- `read_datagram` keeps its promise: behind the outer bytes the packet's own order.
 use native.Mathlib.Omega.{arith}
 use mathlib.Core.Path.{refl, ap, sym, ◌∙◌}
-use Rattle.refusal.specs.Outcome.{told}
+use Rattle.refusal.specs.Answer.{told}
 use Rattle.framing.proofs.Outer.{outer_inv}
 use Rattle.framing.proofs.InPlace.{outer_no, outer_on}
 use Rattle.frame.proofs.Promised.{reads}
@@ -9,18 +9,18 @@ use Rattle.frame.proofs.opening.read_datagram.Goals as goal
 
 pub slice_bounds-read_payload-count : goal.slice_bounds-read_payload-count
 slice_bounds-read_payload-count c =
-    omega (arith, (outer_inv c.args.datagram.now _ (sym c.check_outer-o.ensures ∙ ap told c.in-Done.is)).0)
+    omega (arith, (outer_inv c.args.datagram.now _ (sym c.check_outer.ensures ∙ ap told c.in-Ok.is)).0)
 
 pub slice_bounds-read_payload-start : goal.slice_bounds-read_payload-start
 slice_bounds-read_payload-start c = slice_bounds-read_payload-count c
 
-pub returns-in-Refused-clause-read_promise : goal.returns-in-Refused-clause-read_promise
-returns-in-Refused-clause-read_promise c =
-    reads _ _ _ _ _ (outer_no _ _ _ c.check_outer-o.ensures _ _ (ap told c.in-Refused.is))
+pub returns-in-Err-clause-read_promise : goal.returns-in-Err-clause-read_promise
+returns-in-Err-clause-read_promise c =
+    reads _ _ _ _ _ (outer_no _ _ _ c.check_outer.ensures _ _ (ap told c.in-Err.is))
 
-pub returns-in-Done-clause-read_promise : goal.returns-in-Done-clause-read_promise
-returns-in-Done-clause-read_promise c =
+pub returns-in-Ok-clause-read_promise : goal.returns-in-Ok-clause-read_promise
+returns-in-Ok-clause-read_promise c =
     let r = c.read_payload.ensures.read_promise in
     reads _ _ _ _ _
-    (outer_on _ _ _ c.check_outer-o.ensures _ _ _ _ _ (ap told c.in-Done.is) refl
+    (outer_on _ _ _ c.check_outer.ensures _ _ _ _ _ (ap told c.in-Ok.is) refl
     r.tells.answer r.tells.count r.buffer)

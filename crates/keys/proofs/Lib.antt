@@ -1,4 +1,6 @@
-pub mod Running
+pub mod Pieces
 pub mod Named
+pub mod Texts
+pub mod Told
 pub mod Only
 pub mod Counts

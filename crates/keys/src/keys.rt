@@ -10,12 +10,12 @@ pub struct Keys {
 }
 
 impl Keys {
-    // The keys that a SIK gives.
+    // The keys that a SIK gives; it is no key that is too long.
     pub fn from_sik(sik: [u8; 20]) -> Keys
         ensures { result ≡ keys_of sik }
     {
-        let first = sha1_hmac::hmac(&sik, &[1u8; 20]);
-        let second = sha1_hmac::hmac(&sik, &[2u8; 20]);
+        let first = sha1_hmac::hmac(&sik, &[1u8; 20]).unwrap();
+        let second = sha1_hmac::hmac(&sik, &[2u8; 20]).unwrap();
         let k1 = first.digest;
         let k2 = second.digest;
         Keys { sik, k1, k2 }
@@ -25,10 +25,6 @@ impl Keys {
     pub fn aes_key(self) -> [u8; 16]
         ensures { result ≡ aes_key_of self }
     {
-        let k = self.k2;
-        [
-            k[0], k[1], k[2], k[3], k[4], k[5], k[6], k[7], k[8], k[9], k[10], k[11], k[12], k[13],
-            k[14], k[15],
-        ]
+        octets::cut::<16>(&self.k2, 0)
     }
 }

@@ -1,38 +1,44 @@
 -- A running HMAC to which a key and bytes were given: what a piece and the end make of it. One line a piece for those who feed several.
 use Prim.Native.Nat.{ℕ, ◌+◌, ◌≤◌}
-use native.Mathlib.Omega.{arith}
 use mathlib.Core.List.{List, [], ◌++◌}
-use mathlib.Core.Path.{◌≡◌, refl, ◌∙◌}
-use lib.ListN.{length, length-append}
-use borrow.Author.Tests.{leb-true}
+use mathlib.Core.Path.{◌≡◌}
+use lib.ListN.{length}
+use borrow.Author.Tests.{leb-true, le-leb}
 use Rattle.refusal.specs.Order.{Res, refuse, accept}
 use Rattle.refusal.proofs.Order.{refuse≢accept, accept_inj}
 use Rattle.running.specs.Hash.{Hash, Sized}
 use Rattle.running.specs.Mac.{MacState, hmac_of, hmac_blocks_of}
-use Rattle.running.specs.Promise.{limit, BegunPromise, MacFedPromise, MacEndPromise}
-use Rattle.running.specs.Given.{Given}
+use Rattle.running.specs.Promise.{limit, BegunPromise, MacFedPromise, MacEndPromise, Answer}
+use Rattle.running.specs.Given.{Given, GivenPromise}
 use Rattle.running.proofs.Coded.{mac_more, mac_code}
-use Rattle.running.proofs.Promised.{gives}
+use Rattle.running.proofs.Promised.{gives, within, say_yes}
+use lib.Dec.{leb}
 
 module _ {C : Type 0} (H : Hash C) (ok : Sized H) where
-  -- the state before any byte
-  pub given_none : (key : List ℕ) {st : MacState C} → BegunPromise H key (accept st) → Given H key [] 0 st
-  given_none key p = let q = gives p in record { key = leb-true (length key) limit q.0; state = q.1; size = refl }
+  -- the state before any byte, and the state that an answer gives
+  pub given_none : (key : List ℕ) {st : MacState C} → BegunPromise H key (accept st) → Given H key [] st
+  given_none key p = let q = gives p in record { key = leb-true (length key) limit q.0; state = q.1 }
 
-  module _ (key m s : List ℕ) (n j : ℕ) {st : MacState C} (g : Given H key m n st) (e : length s ≡ j) (l : n + j ≤ limit) where
+  pub given_by : (key m : List ℕ) {st : MacState C} → GivenPromise H key m (accept st) → Given H key m st
+  given_by key m p = let q = gives p in record { key = leb-true (length key) limit q.0; state = q.1 }
+
+  module _ (key m : List ℕ) {st : MacState C} (g : Given H key m st) where
+    -- as an answer
+    pub given_answer : GivenPromise H key m (accept st)
+    given_answer = within g.key g.state
+
     -- a piece goes to the end of what was given
-    pub given_more : {v : MacState C} → MacFedPromise H st s (accept v) → Given H key (m ++ s) (n + j) v
-    given_more p = record {
-      key = g.key;
-      state = accept_inj _ _ (mac_more H ok key m s g.state p (omega (arith, g.size, e)));
-      size = length-append m s ∙ omega (arith, g.size, e);
-    }
+    pub given_more : (s : List ℕ) {v : MacState C} → MacFedPromise H st s (accept v) → length m + length s ≤ limit → Given H key (m ++ s) v
+    given_more s p l = record { key = g.key; state = accept_inj _ _ (mac_more H ok key m s g.state p l) }
 
     -- and is not refused
-    pub given_taken : {a b : ℕ} → MacFedPromise H st s (refuse a b) → ⊥
-    given_taken p = refuse≢accept _ _ _ (mac_more H ok key m s g.state p (omega (arith, g.size, e)))
+    pub given_taken : (s : List ℕ) {a b : ℕ} → MacFedPromise H st s (refuse a b) → length m + length s ≤ limit → ⊥
+    given_taken s p l = refuse≢accept _ _ _ (mac_more H ok key m s g.state p l)
 
-  -- the end is the code of what was given
-  pub given_code : (key m : List ℕ) (n : ℕ) {st : MacState C} {r : Res (List ℕ × ℕ)} → Given H key m n st → MacEndPromise H st r → n ≤ limit
-      → r ≡ accept (hmac_of H key m, hmac_blocks_of H key m)
-  given_code key m n g p h = mac_code H ok key m g.state p g.key (omega (arith, g.size))
+    -- the end is the code of what was given
+    pub given_code : {r : Res (List ℕ × ℕ)} → MacEndPromise H st r → length m ≤ limit → r ≡ accept (hmac_of H key m, hmac_blocks_of H key m)
+    given_code p l = mac_code H ok key m g.state p g.key l
+
+    pub given_hashed : {r : Res (List ℕ × ℕ)} → MacEndPromise H st r → length m ≤ limit
+        → Answer (leb (length key) limit) (hmac_of H key m, hmac_blocks_of H key m) r
+    given_hashed p l = say_yes (le-leb (length key) limit g.key) (given_code p l)

@@ -7,7 +7,7 @@ use mathlib.Core.Bool.{Bool, true, false, ◌&&◌}
 use mathlib.Core.List.{List}
 use mathlib.Core.Path.{◌≡◌, refl, sym, ◌∙◌, ap}
 use Rattle.refusal.specs.Order.{Res, refuse, accept}
-use Rattle.refusal.proofs.Order.{refuse≢accept, accept_inj, pass, need_no, need_inv}
+use Rattle.refusal.proofs.Order.{refuse≢accept, refuse_as, accept_inj, pass, need_no, need_inv}
 use Rattle.running.specs.Promise.{Answer}
 
 module _ {A : Type 0} {ok : Bool} {a : A} where
@@ -36,6 +36,10 @@ module _ {A : Type 0} {ok : Bool} {a : A} where
       by : (t : Bool) → ok ≡ t → ok ≡ false
       by true e = absurd (refuse≢accept _ _ a (yes p e))
       by false e = e
+
+-- a refusal is handed on, whatever the call was asked for
+pub handed_on : {A B : Type 0} {ok : Bool} {a : A} {n v : ℕ} (b : B) → Answer ok a (refuse n v) → Answer ok b (refuse n v)
+handed_on b p = let o = refuses p in say_no o (refuse_as _ _ 37 0 (no p o))
 
 -- a call that tests a bound
 module _ {A : Type 0} {a : A} where

@@ -1,19 +1,15 @@
--- `message_2_code` keeps its promise: a line for each piece, then the end.
-use Rattle.keys.specs.Codes.{text2}
-use native.Mathlib.Omega.{arith}
-use Rattle.sha1_block.specs.Block.{sha1_hash}
-use Rattle.sha1_block.proofs.Laws.{sha1_sized}
-use Rattle.running.proofs.Givens.{given_code}
+-- `message_2_code` keeps its promise.
+use Rattle.std.proofs.Common.{◌≡◌, ap, ◌∙◌, rules}
+use Rattle.octets.specs.Number.{le}
+use Rattle.keys.proofs.Texts.{room_2, joined_2}
 use Rattle.keys.proofs.state.message_2_code.Goals as goal
 
+pub make_code-requires : goal.make_code-requires
+make_code-requires c = room_2 _ _ _ _ _ (search rules) (search rules) (search rules) (search rules) (search rules)
+
 pub returns : goal.returns
-unfolding text2
 returns c =
-    let k = c.args.password.now in
-    let g₁ = c.feed_id-a.ensures k _ _ c.begin.ensures (omega arith) in
-    let g₂ = c.feed_id-b.ensures k _ _ g₁ (omega arith) in
-    let g₃ = c.feed16-c.ensures k _ _ g₂ (omega arith) in
-    let g₄ = c.feed16-d.ensures k _ _ g₃ (omega arith) in
-    let g₅ = c.feed16-e.ensures k _ _ g₄ (omega arith) in
-    let g₆ = c.feed_role.ensures k _ _ g₅ (omega arith) in
-    given_code sha1_hash sha1_sized (λ d. d) k _ _ g₆ c.finalize.ensures (omega arith)
+    let a = c.args in
+    let e : c.le-sidm.result ≡ le 4 a.sidm = c.le-sidm.ensures ∙ ap (le 4) c.from.ensures in
+    let f : c.le-sidc.result ≡ le 4 a.sidc = c.le-sidc.ensures ∙ ap (le 4) c.from-2.ensures in
+    rw (joined_2 _ _ a.rm a.rc a.guid a.sidm a.sidc _ e f) at c.make_code.ensures

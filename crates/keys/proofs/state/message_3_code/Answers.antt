@@ -1,16 +1,14 @@
--- `message_3_code` keeps its promise: a line for each piece, then the end.
-use Rattle.keys.specs.Codes.{text3}
-use native.Mathlib.Omega.{arith}
-use Rattle.sha1_block.specs.Block.{sha1_hash}
-use Rattle.sha1_block.proofs.Laws.{sha1_sized}
-use Rattle.running.proofs.Givens.{given_code}
+-- `message_3_code` keeps its promise.
+use Rattle.std.proofs.Common.{◌≡◌, ap, ◌∙◌, rules}
+use Rattle.octets.specs.Number.{le}
+use Rattle.keys.proofs.Texts.{room_3, joined_3}
 use Rattle.keys.proofs.state.message_3_code.Goals as goal
 
+pub make_code-requires : goal.make_code-requires
+make_code-requires c = room_3 _ _ (search rules) (search rules)
+
 pub returns : goal.returns
-unfolding text3
 returns c =
-    let k = c.args.password.now in
-    let g₁ = c.feed16-a.ensures k _ _ c.begin.ensures (omega arith) in
-    let g₂ = c.feed_id-b.ensures k _ _ g₁ (omega arith) in
-    let g₃ = c.feed_role.ensures k _ _ g₂ (omega arith) in
-    given_code sha1_hash sha1_sized (λ d. d) k _ _ g₃ c.finalize.ensures (omega arith)
+    let a = c.args in
+    let e : c.le-sidm.result ≡ le 4 a.sidm = c.le-sidm.ensures ∙ ap (le 4) c.from.ensures in
+    rw (joined_3 a.rc _ a.sidm _ e) at c.make_code.ensures

@@ -123,10 +123,17 @@ pub struct Code {
 pub fn make_code(s: SubState, bytes: &[u8]) -> Code
     ensures { CodePromise s bytes.now result }
 {
-    let h = sha1_hmac::hmac(&s.keys.k1, bytes);
-    let code = h.digest;
-    Code {
-        code,
-        blocks: h.blocks,
+    match sha1_hmac::hmac(&s.keys.k1, bytes) {
+        Ok(h) => {
+            let code = h.digest;
+            Code {
+                code,
+                blocks: h.blocks,
+            }
+        }
+        Err(_) => Code {
+            code: [0; DIGEST_LEN],
+            blocks: 0,
+        },
     }
 }

@@ -45,9 +45,9 @@ pub fn say_id(out: &mut [u8], c: Cursor, word: &[u8], n: u32) -> Cursor
 pub fn say_refusal(out: &mut [u8], c: Cursor, r: Refusal) -> Cursor
     ensures { SayPromise out.old c (refusal_pieces r) result out.new }
 {
-    let c = say_number(out, c, b"refused ", r.number() as u32);
-    if !r.carries() {
-        return c;
+    let c = say_number(out, c, b"refused ", u32::from(r.number()));
+    match r.value() {
+        None => c,
+        Some(v) => say_number(out, c, b" ", u32::from(v)),
     }
-    say_number(out, c, b" ", r.value() as u32)
 }

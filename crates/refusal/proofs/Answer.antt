@@ -2,7 +2,6 @@
 use mathlib.Core.Path.{◌≡◌, refl, sym, ap}
 use Rattle.std.specs.Prelude.{Result, Ok, Err}
 use Rattle.refusal.specs.Table.{number_of, value_of}
-use Rattle.refusal.specs.Order.{Res, refuse, accept}
 use Rattle.refusal.specs.Answer.{told_as, told}
 use Rattle.refusal.specs.declared.Refusal.{Refusal}
 use Rattle.refusal.proofs.Order.{refuse≢accept}

@@ -1,6 +1,6 @@
 -- The table of refusals (docs/RULES.md, 1.1 and 1.2): what number each refusal has, and which of them carry a byte of the
 -- input. Every promise of the layer says a refusal by these.
-use Rattle.std.specs.Prelude.{ℕ, Bool, true, false, ◌||◌, ◌&&◌, not, List, [], ◌∷◌, eqb}
+use Rattle.std.specs.Prelude.{ℕ, Bool, true, false, ◌||◌, ◌&&◌, not, List, [], ◌∷◌, Option, Some, None, cond, eqb}
 use Rattle.refusal.specs.declared.Refusal.{Refusal}
 use Rattle.refusal.specs.declared.Refusal.TheVariants as refusal
 
@@ -80,3 +80,7 @@ unrepeated (n ∷ ns) = not (among n ns) && unrepeated ns
 -- whether a byte of the input goes with the number
 abbrev pub carries_of : Refusal → Bool
 carries_of r = among (number_of r) carrying
+
+-- that byte, where one goes with it
+abbrev pub carried_of : Refusal → Option ℕ
+carried_of r = cond (carries_of r) (Some (value_of r)) None

@@ -2,7 +2,7 @@
 #![tactic(auto)]
 
 ghost use Rattle.std.specs.Prelude.{◌≡◌};
-ghost use Rattle.refusal.specs.Table.{number_of, carries_of, value_of};
+ghost use Rattle.refusal.specs.Table.{number_of, carried_of};
 
 // A case for each number of the table (docs/RULES.md, section 1); what is in brackets is carried to the caller.
 #[derive(Clone, Copy)]
@@ -56,7 +56,7 @@ pub enum Outcome {
 }
 
 impl Refusal {
-    // The number that operators know the refusal by.
+    // The number that operators know the refusal by. No discriminants: a case that carries a byte has none to cast.
     pub fn number(self) -> u8
         ensures { result ≡ number_of self }
     {
@@ -103,35 +103,19 @@ impl Refusal {
         }
     }
 
-    // Whether a byte of the input goes with the number.
-    pub fn carries(self) -> bool
-        ensures { result ≡ carries_of self }
+    // The byte of the input that goes with the number, where one does.
+    pub fn value(self) -> Option<u8>
+        ensures { result ≡ carried_of self }
     {
         match self {
-            Refusal::InvalidPayloadType(_) => true,
-            Refusal::UnknownNextHeader(_) => true,
-            Refusal::NamedStatus(_) => true,
-            Refusal::UnnamedStatus(_) => true,
-            Refusal::InvalidPrivilegeLevel(_) => true,
-            Refusal::UnknownAlgorithm(_) => true,
-            Refusal::UnknownBlockType(_) => true,
-            _ => false,
-        }
-    }
-
-    // The byte that goes with the number, 0 where none does.
-    pub fn value(self) -> u8
-        ensures { result ≡ value_of self }
-    {
-        match self {
-            Refusal::InvalidPayloadType(b) => b,
-            Refusal::UnknownNextHeader(b) => b,
-            Refusal::NamedStatus(b) => b,
-            Refusal::UnnamedStatus(b) => b,
-            Refusal::InvalidPrivilegeLevel(b) => b,
-            Refusal::UnknownAlgorithm(b) => b,
-            Refusal::UnknownBlockType(b) => b,
-            _ => 0,
+            Refusal::InvalidPayloadType(b)
+            | Refusal::UnknownNextHeader(b)
+            | Refusal::NamedStatus(b)
+            | Refusal::UnnamedStatus(b)
+            | Refusal::InvalidPrivilegeLevel(b)
+            | Refusal::UnknownAlgorithm(b)
+            | Refusal::UnknownBlockType(b) => Some(b),
+            _ => None,
         }
     }
 }

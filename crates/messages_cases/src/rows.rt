@@ -43,7 +43,11 @@ impl Told {
     fn of_reader(n: u8, answer: Result<usize, Refusal>) -> Told {
         match answer {
             Ok(value) => Told::new(n, 0, value),
-            Err(r) => Told::new(n, u16::from(r.number()), usize::from(r.value())),
+            Err(r) => Told::new(
+                n,
+                u16::from(r.number()),
+                usize::from(r.value().unwrap_or(0)),
+            ),
         }
     }
 }

@@ -1,8 +1,6 @@
--- `sub_byte` keeps its promise: the entry that is looked up follows the rule.
-use mathlib.Core.Path.{◌∙◌}
+-- `sub_byte` keeps its promise: the entry follows the rule.
 use Rattle.sbox.proofs.Table.{sbox_rule}
-use borrow.Author.Rules.{rules}
 use Rattle.sbox.proofs.sub_byte.Goals as goal
 
 pub returns : goal.returns
-returns c = c.look_up.ensures ∙ sbox_rule c.args.x (search rules)
+returns c = sbox_rule c.args.x c.ranges.x.fits

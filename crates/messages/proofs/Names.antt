@@ -31,9 +31,9 @@ name_counted u n e f =
     ]
 
 -- sixteen bytes from a list's start are the bytes that are stored
-pub stored-filled : (l : List ℕ) → length l ≤ 16 → record { bytes = filled 16 (part l 0 16); len = length l } ≡ stored l
+pub stored_filled : (l : List ℕ) → length l ≤ 16 → record { bytes = filled 16 (part l 0 16); len = length l } ≡ stored l
 unfolding stored filled
-stored-filled l h =
+stored_filled l h =
     let e : take 16 l ≡ l = take_all _ _ h in
     ap (λ (x : List ℕ). record { bytes = filled 16 x; len = length l }) e
 

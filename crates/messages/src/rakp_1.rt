@@ -29,7 +29,7 @@ fn is_allowed(name: &[u8]) -> bool
 
 impl Username {
     // The name that a user has typed: the whole of it, or a refusal.
-    #[tactic(auto, unfolding(crate::specs::Name::username_of, refusal::specs::Order::need, refusal::specs::Order::and_then))]
+    #[tactic(auto, using(crate::proofs::Names::stored_filled), unfolding(crate::specs::Name::username_of, refusal::specs::Order::need, refusal::specs::Order::and_then))]
     pub fn new(name: &[u8]) -> Result<Username, Refusal>
         ensures { NamePromise (username_of name.now) result }
     {

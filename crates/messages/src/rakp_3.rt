@@ -19,10 +19,7 @@ impl RakpMessage3 {
     pub fn write(self, code: &[u8], out: &mut [u8]) -> Result<usize, Refusal>
         ensures { WritePromise (message3 self code.now) out.old result out.new }
     {
-        if out.len() < rakp::HEAD {
-            return Err(Refusal::OutputTooShort);
-        }
-        if out.len() - rakp::HEAD < code.len() {
+        if out.len() < rakp::HEAD || out.len() - rakp::HEAD < code.len() {
             return Err(Refusal::OutputTooShort);
         }
         let head = rakp::make_head(self.tag, 0, 0, 0, self.system);

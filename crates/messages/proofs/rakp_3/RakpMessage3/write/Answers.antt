@@ -15,12 +15,6 @@ returns-then-out-lt-HEAD c =
     let a = c.args in
     write_no (message3 a.self a.code.now) a.out.now (omega arith)
 
-pub returns-then-out-code : goal.returns-then-out-code
-unfolding message3
-returns-then-out-code c =
-    let a = c.args in
-    write_no (message3 a.self a.code.now) a.out.now (omega arith)
-
 pub returns : goal.returns
 unfolding message3
 returns c =

@@ -1,4 +1,5 @@
 -- What each side reads in the messages of the other.
+use Rattle.std.specs.Prelude.{Option, Some, None}
 use Prim.Native.Nat.{ℕ, ◌+◌, ◌-◌, ◌%◌, ◌^◌, ◌≤◌, ◌<◌}
 use native.Mathlib.Omega.{arith}
 use mathlib.Core.Bool.{true}
@@ -16,13 +17,11 @@ use Rattle.octets.proofs.Number.{unle-le}
 use Rattle.octets.proofs.Place.{part-behind}
 use Rattle.sha1_hmac.specs.Hash.{hmac_sha1}
 use Rattle.keys.specs.Codes.{role_name, code3}
-use Rattle.messages.specs.Auth.{is_level}
-use Rattle.messages.specs.Block.{last_code, known, block_of, of_type, block_bytes}
+use Rattle.messages.specs.Auth.{last_code, coded, is_level}
+use Rattle.messages.specs.Block.{known, block_of, of_type, block_bytes}
 use Rattle.messages.specs.Name.{allowed, name_of}
 use Rattle.messages.specs.OpenSession.{Response, level_byte, open_request, open_numbers, open_response}
 use Rattle.messages.specs.Rakp.{fields2, message2, message1, message3, fields4, message4}
-use Rattle.messages.specs.declared.open_session.RequestedPrivilege.{RequestedPrivilege}
-use Rattle.messages.specs.declared.open_session.RequestedPrivilege.TheVariants.{None, Level}
 use Rattle.messages.specs.declared.rakp_1.RakpMessage1.{RakpMessage1}
 use Rattle.messages.specs.declared.rakp_2.RakpMessage2.{RakpMessage2}
 use Rattle.messages.specs.declared.rakp_3.RakpMessage3.{RakpMessage3}
@@ -41,9 +40,9 @@ id_back n h = unle-le 4 n h
 
 -- a block that is written in the place of its type
 of_type-block_bytes : (t c : ℕ) → leb t 2 ≡ true → leb c (last_code t) ≡ true → of_type t (block_of (block_bytes t c)) ≡ accept c
-unfolding of_type block_of known
+unfolding of_type block_of known coded
 of_type-block_bytes t c h k =
-    then_accept _ _ (record { type = t; code = c }) (pass _ _ _ _ refl (pass _ _ _ _ h (pass _ _ _ _ k refl)))
+    then_accept _ _ (record { type = t; code = c }) (pass _ _ _ _ refl (pass _ _ _ _ h (then_accept _ _ c (pass _ _ _ _ k refl))))
     ∙ pass _ _ _ _ (eq-eqb t t refl) refl
 
 -- a response
@@ -140,9 +139,9 @@ pub request_level : (asked : Asked) → level_in (request_of asked) ≡ level_by
 unfolding request_of open_request
 request_level asked = refl
 
-level_short : (l : RequestedPrivilege) → level_allowed l ≡ true → level_byte l ≤ 5
+level_short : (l : Option ℕ) → level_allowed l ≡ true → level_byte l ≤ 5
 level_short None h = omega arith
-level_short (Level b) h = level_most b h
+level_short (Some b) h = level_most b h
 
 pub request_taken : (asked : Asked) → asked.console < 2 ^ 32 → (asked.console ≡ 0 → ⊥) → level_allowed asked.level ≡ true
     → TakesRequest (request_of asked)

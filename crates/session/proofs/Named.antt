@@ -1,20 +1,20 @@
 -- A name is taken whole or not at all: Begin's order of tests, what a refused Begin leaves, and message 1's length byte and last bytes, of
 -- every record that the steps reach and of the calls themselves.
 use Rattle.std.specs.Prelude.{Ok}
+use Rattle.std.proofs.lemmas.Grind.{common_steps}
 use Prim.Native.Nat.{ℕ, ◌≤◌, ◌<◌}
 use native.Mathlib.Omega.{arith}
-use mathlib.Core.Bool.{Bool, true, false, not, cond}
+use mathlib.Core.Bool.{Bool, true, not, cond}
 use mathlib.Core.List.{List, []}
 use mathlib.Core.Logic.{◌↔◌}
-use mathlib.Core.Path.{◌≡◌, refl, sym, ◌∙◌, ap, ap₂, subst}
+use mathlib.Core.Path.{◌≡◌, sym, ◌∙◌, ap, ap₂, subst}
 use lib.Dec.{eqb, leb}
 use lib.ListN.{length, take}
 use lib.Seq.{take-length}
-use borrow.Author.Tests.{ne_eqb, eqb-false, lt-leb, leb-false, not-true}
-use Rattle.refusal.specs.Order.{Res, refuse, accept, need, and_then, done}
+use Rattle.refusal.specs.Order.{refuse, accept, need, and_then, done}
 use Rattle.refusal.specs.Table.{among}
 use Rattle.refusal.specs.Answer.{told}
-use Rattle.refusal.proofs.Order.{refuse≢accept, pass, need_past, need_own, then_need, then_accept, done_need, done_yes, done_no}
+use Rattle.refusal.proofs.Order.{done_yes, done_no}
 use Rattle.octets.specs.Place.{begun}
 use Rattle.octets.proofs.Place.{begun_none}
 use Rattle.messages.specs.Name.{allowed, longest_name, username_of, name_of, stored}
@@ -106,28 +106,12 @@ users_apart asked asked₂ name name₂ c d r q e f g =
     sym (name_heard _ name (message_1_names asked name c r e)) ∙ g ∙ name_heard _ name₂ (message_1_names asked₂ name₂ d q f)
 
 -- Begin's five tests, as they stand one behind the other
-two_tests : {A B : Type 0} (a b : Bool) (n v m w : ℕ) (x : A) (f : A → Res B)
-    → and_then (need a n v (need b m w (accept x))) f ≡ need a n v (need b m w (f x))
-two_tests a b n v m w x f =
-    then_need a n v _ f ∙ ap (need a n v) (then_need b m w _ f ∙ ap (need b m w) (then_accept (accept x) f x refl))
-
 five_tests : {A B : Type 0} (a b c d e : Bool) (v : ℕ) (x : A) (f : A → B)
     → done (and_then (need {A = Unit {0}} a 20 0 (need b 19 v (accept tt))) (λ _.
     and_then (need c 40 0 (need d 34 0 (accept x))) (λ y. need e 15 0 (accept (f y)))))
     ≡ need a 20 0 (need b 19 v (need c 40 0 (need d 34 0 (need e 15 0 (accept tt)))))
-five_tests a b c d e v x f =
-    ap done (two_tests a b 20 0 19 v tt _ ∙ ap (λ r. need a 20 0 (need b 19 v r)) (two_tests c d 40 0 34 0 x _))
-    ∙ done_need a 20 0 _
-    ∙ ap (need a 20 0)
-    (done_need b 19 v _
-    ∙ ap (need b 19 v) (done_need c 40 0 _ ∙ ap (need c 40 0) (done_need d 34 0 _ ∙ ap (need d 34 0) (done_need e 15 0 _))))
-
--- 40 is the length's own: behind its test there is none
-own_40 : (b d e : Bool) → (need {A = Unit {0}} b 40 0 (need d 34 0 (need e 15 0 (accept tt))) ≡ refuse 40 0) ↔ (b ≡ false)
-own_40 b d e =
-    need_own b 40 0 _ (λ (h : need {A = Unit {0}} d 34 0 (need e 15 0 (accept tt)) ≡ refuse 40 0).
-    let p = need_past d 34 0 _ {m = 40} (λ (z : 34 ≡ 40). omega arith) h in
-    refuse≢accept 40 0 tt (sym (need_past e 15 0 _ {m = 40} (λ (z : 15 ≡ 40). omega arith) p.1).1))
+unfolding need and_then
+five_tests a b c d e v x f = grind (arith, common_steps)
 
 module _ (c : BeginCall) where
   pub begin_order : told c.answer.answer
@@ -142,15 +126,8 @@ module _ (c : BeginCall) where
 
   pub begin_too_long : (told c.answer.answer ≡ refuse 40 0)
       ↔ ((c.args.0.console ≡ 0 → ⊥) × (level_allowed c.args.0.level ≡ true) × (longest_name < length (name_lent c)))
-  begin_too_long = (
-    (λ e.
-        let p = need_past _ 20 0 _ {m = 40} (λ z. omega arith) (sym begin_order ∙ e) in
-        let q = need_past _ 19 _ _ {m = 40} (λ z. omega arith) p.1 in
-        (eqb-false _ 0 (not-true _ p.0), q.0, leb-false _ _ ((own_40 _ _ _).0 q.1))),
-    (λ h.
-        begin_order
-        ∙ pass _ _ _ _ (ap not (ne_eqb _ 0 h.0)) (pass _ _ _ _ h.1 ((own_40 _ _ _).1 (lt-leb _ _ h.2)))),
-  )
+  unfolding need
+  begin_too_long = let o = begin_order in ((λ e. grind (arith, common_steps)), (λ h. grind (arith, common_steps)))
 
   -- a refused Begin answers a closed record and writes nothing
   pub begin_refused : (n v : ℕ) → told c.answer.answer ≡ refuse n v

@@ -1,9 +1,13 @@
 -- Which refusals each stage of a step can give: those before the message is looked at leave the record, those for the message close it.
+use native.Mathlib.Omega.{arith}
+use Rattle.std.proofs.lemmas.Grind.{common_steps}
+use Rattle.refusal.specs.Order.{need, and_then}
 use Prim.Native.Nat.{ℕ}
 use mathlib.Core.Bool.{Bool, true, false, ◌||◌}
 use mathlib.Core.List.{List}
 use mathlib.Core.Path.{refl}
 use Rattle.refusal.specs.Table.{among}
+use Rattle.messages.specs.Auth.{coded}
 use Rattle.messages.specs.Block.{block_of, of_type, known}
 use Rattle.messages.specs.Name.{username_of}
 use Rattle.messages.specs.OpenSession.{open_checked, open_fields, open_response}
@@ -15,36 +19,22 @@ use Rattle.session.specs.declared.Record.{Record}
 use Rattle.session.proofs.Stages.{Only, Quiet, Keeps, Shuts, only_accept, only_need, only_then}
 
 -- Begin
-ready_begin_quiet : (asked : Asked) → Only Quiet (ready_begin asked)
-unfolding ready_begin
-ready_begin_quiet asked = only_need Quiet _ _ _ _ refl (only_need Quiet _ _ _ _ refl (only_accept Quiet _))
-
-username_quiet : (name : List ℕ) → Only Quiet (username_of name)
-unfolding username_of
-username_quiet name = only_need Quiet _ _ _ _ refl (only_need Quiet _ _ _ _ refl (only_accept Quiet _))
-
 pub begin_quiet : (asked : Asked) (name : List ℕ) (room : ℕ) → Only Quiet (begin_of asked name room)
-unfolding begin_of
-begin_quiet asked name room =
-    only_then Quiet _ _ (ready_begin_quiet asked) (λ _.
-    only_then Quiet _ _ (username_quiet name) (λ _. only_need Quiet _ _ _ _ refl (only_accept Quiet _)))
+unfolding begin_of ready_begin username_of need and_then
+begin_quiet asked name room n v e = grind (arith, common_steps)
 
 -- before the message
 pub ready_open_keeps : (s : Record) (room : ℕ) → Only Keeps (ready_open s room)
-unfolding ready_open
-ready_open_keeps s room = only_need Keeps _ _ _ _ (refl, refl) (only_need Keeps _ _ _ _ (refl, refl) (only_accept Keeps _))
+unfolding ready_open need
+ready_open_keeps s room n v e = grind (arith, common_steps)
 
 pub ready_two_keeps : (most : ℕ) (s : Record) (kg password : List ℕ) (room : ℕ) → Only Keeps (ready_two most s kg password room)
-unfolding ready_two
-ready_two_keeps most s kg password room =
-    only_need Keeps _ _ _ _ (refl, refl)
-    (only_need Keeps _ _ _ _ (refl, refl)
-    (only_need Keeps _ _ _ _ (refl, refl)
-    (only_need Keeps _ _ _ _ (refl, refl) (only_accept Keeps _))))
+unfolding ready_two need
+ready_two_keeps most s kg password room n v e = grind (arith, common_steps)
 
 pub ready_four_keeps : (s : Record) → Only Keeps (ready_four s)
-unfolding ready_four
-ready_four_keeps s = only_need Keeps _ _ _ _ (refl, refl) (only_accept Keeps _)
+unfolding ready_four need
+ready_four_keeps s n v e = grind (arith, common_steps)
 
 -- for the message
 named_shuts : (t : Bool) → Shuts (number_if t)
@@ -56,12 +46,8 @@ unfolding status_number
 status_shuts names b = named_shuts (among b common || among b names)
 
 block_shuts : (t : ℕ) (l : List ℕ) → Only Shuts (of_type t (block_of l))
-unfolding of_type block_of known
-block_shuts t l =
-    only_then Shuts _ _
-    (only_need Shuts _ _ _ _ (refl, refl)
-    (only_need Shuts _ _ _ _ (refl, refl) (only_need Shuts _ _ _ _ (refl, refl) (only_accept Shuts _))))
-    (λ b. only_need Shuts _ _ _ _ (refl, refl) (only_accept Shuts _))
+unfolding of_type block_of known coded need and_then
+block_shuts t l n v e = grind (arith, common_steps)
 
 open_shuts : (m : List ℕ) → Only Shuts (open_response m)
 unfolding open_response open_checked open_fields

@@ -1,7 +1,7 @@
 -- The four steps of a console (docs/RULES.md, 7.1 to 7.5 and 7.15; the Standard, 13.17 to 13.24 and 13.28 to 13.32): for each the order of its
 -- refusals, the record that it leaves and the message that it writes. `ready..` is what is tested before the message is looked at,
 -- `heard..` what is tested in the message and what it then says, `made..` what is made of it, `..Of` the whole step.
-use Rattle.std.specs.Prelude.{ℕ, Bool, true, not, ◌&&◌, List, [], eqb, leb, length, drop}
+use Rattle.std.specs.Prelude.{ℕ, Option, Some, None, Bool, true, not, ◌&&◌, List, [], eqb, leb, length, drop}
 use Rattle.refusal.specs.Order.{Res, accept, need, and_then}
 use Rattle.octets.specs.Equal.{same}
 use Rattle.sha1_hmac.specs.Hash.{hmac_sha1}
@@ -14,8 +14,6 @@ use Rattle.messages.specs.Rakp.{message1, message2, message3, message4}
 use Rattle.messages.specs.declared.auth.AuthenticationAlgorithm as A
 use Rattle.messages.specs.declared.auth.IntegrityAlgorithm as I
 use Rattle.messages.specs.declared.auth.ConfidentialityAlgorithm as C
-use Rattle.messages.specs.declared.open_session.RequestedPrivilege.{RequestedPrivilege}
-use Rattle.messages.specs.declared.open_session.RequestedPrivilege.TheVariants.{None, Level}
 use Rattle.messages.specs.declared.rakp_1.RakpMessage1.{RakpMessage1}
 use Rattle.messages.specs.declared.rakp_1.Username.{Username}
 use Rattle.messages.specs.declared.rakp_2.RakpMessage2.{RakpMessage2}
@@ -32,9 +30,9 @@ pub record Made : Type 0 where
   pub bytes : List ℕ
 
 -- Begin
-abbrev pub level_allowed : RequestedPrivilege → Bool
+abbrev pub level_allowed : Option ℕ → Bool
 level_allowed None = true
-level_allowed (Level b) = is_level b
+level_allowed (Some b) = is_level b
 
 -- the request: RAKP-HMAC-SHA1, HMAC-SHA1-96 and AES-CBC-128 are asked for
 unfoldable pub request_of : Asked → List ℕ

@@ -7,24 +7,22 @@ ghost use Rattle.session.specs.Steps.{heard_four, value_four, four_of};
 ghost use Rattle.session.specs.Promise.{StepPromise};
 
 use crate::{Record, Step, Stepped, TAG_3, state};
-use messages::rakp_4::{RakpAnswer4, RakpMessage4};
+use messages::rakp_4::RakpMessage4;
 use refusal::Refusal;
 
 // How many bytes message 4's value has.
 const VALUE_LEN: usize = 12;
 
 // The value that message 4 ought to carry.
+#[tactic(auto, unfolding(crate::specs::Steps::value_four))]
 fn compute_value(state: Record) -> [u8; VALUE_LEN]
     ensures { result ≡ value_four state }
 {
-    let k = state.keys;
-    let sik = k.sik;
-    let rm = state.rm;
-    let guid = state.guid;
-    keys::state::message_4_value(sik, rm, state.system, guid)
+    keys::state::message_4_value(state.keys.sik, state.rm, state.system, state.guid)
 }
 
 // The record of an open session: only the step changes.
+#[tactic(auto, unfolding(crate::specs::Record::opened))]
 fn mark_open(state: Record) -> Record
     ensures { result ≡ opened state }
 {
@@ -35,28 +33,21 @@ fn mark_open(state: Record) -> Record
 }
 
 // Message 4 by its own tests, then by tag and id, then by the value, over all of its bytes.
+#[tactic(auto, using(crate::proofs::Makes::value_inside), unfolding(crate::specs::Steps::heard_four, refusal::specs::Order::need, refusal::specs::Order::and_then))]
 fn check_message(state: Record, message: &[u8]) -> Result<(), Refusal>
     ensures { told result ≡ done (heard_four state message.now) }
 {
-    match RakpMessage4::from_data(message) {
-        RakpAnswer4::Refused(r) => Err(r),
-        RakpAnswer4::Message(f) => {
-            if f.tag != TAG_3 {
-                return Err(Refusal::MessageTagMismatch);
-            }
-            let begun = state.begun;
-            if f.id != begun.console {
-                return Err(Refusal::SessionIdMismatch);
-            }
-            let v = compute_value(state);
-            let p = f.value;
-            let at = p.at;
-            if !octets::same(&message[at..], &v) {
-                return Err(Refusal::InvalidIntegrityCheckValue);
-            }
-            Ok(())
-        }
+    let f = RakpMessage4::from_data(message)?;
+    if f.tag != TAG_3 {
+        return Err(Refusal::MessageTagMismatch);
     }
+    if f.id != state.begun.console {
+        return Err(Refusal::SessionIdMismatch);
+    }
+    if !octets::same(&message[f.value.at..], &compute_value(state)) {
+        return Err(Refusal::InvalidIntegrityCheckValue);
+    }
+    Ok(())
 }
 
 // Takes message 4; nothing is sent after it.

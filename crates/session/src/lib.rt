@@ -2,7 +2,6 @@
 #![tactic(auto)]
 
 use keys::Keys;
-use messages::open_session::RequestedPrivilege;
 use messages::rakp_1::Username;
 use refusal::Refusal;
 use suite::{Confidentiality, Integrity};
@@ -47,7 +46,7 @@ pub enum Lookup {
 #[derive(Clone, Copy)]
 pub struct Asked {
     pub console: u32,
-    pub level: RequestedPrivilege,
+    pub level: Option<u8>,
     pub lookup: Lookup,
 }
 

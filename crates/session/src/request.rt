@@ -4,15 +4,15 @@ ghost use Rattle.refusal.specs.Order.{accept};
 ghost use Rattle.refusal.specs.Answer.{told, told_as};
 ghost use Rattle.session.specs.Constants.{request_size};
 ghost use Rattle.session.specs.Record.{closed, begun_of, begun_with};
-ghost use Rattle.session.specs.Role.{level_of, role_of};
+ghost use Rattle.session.specs.Role.{role_of};
 ghost use Rattle.session.specs.Steps.{level_allowed, ready_begin, made_begin, begin_of};
 ghost use Rattle.session.specs.Promise.{StepPromise};
 
 use crate::{Asked, Begun, Lookup, OPEN_TAG, Record, Step, Stepped, state};
 use messages::auth::{AuthenticationAlgorithm, ConfidentialityAlgorithm, IntegrityAlgorithm};
-use messages::open_session::{OpenSessionRequest, RequestedPrivilege};
+use messages::open_session::OpenSessionRequest;
 use messages::rakp_1::Username;
-use refusal::{Outcome, Refusal};
+use refusal::Refusal;
 
 // How many bytes the request has.
 const REQUEST_LEN: usize = 32;
@@ -24,6 +24,7 @@ const ADMINISTRATOR: u8 = 0x04;
 const NAME_ONLY: u8 = 0x10;
 
 // The tests on the id and the level.
+#[tactic(auto, unfolding(crate::specs::Steps::ready_begin, refusal::specs::Order::need))]
 fn check_asked(asked: Asked) -> Result<(), Refusal>
     ensures { told result ≡ ready_begin asked }
 {
@@ -31,48 +32,26 @@ fn check_asked(asked: Asked) -> Result<(), Refusal>
         return Err(Refusal::ZeroRemoteConsoleSessionId);
     }
     match asked.level {
-        RequestedPrivilege::Level(b) if !messages::auth::is_level(b) => {
-            Err(Refusal::InvalidPrivilegeLevel(b))
-        }
+        Some(b) if !messages::auth::is_level(b) => Err(Refusal::InvalidPrivilegeLevel(b)),
         _ => Ok(()),
     }
 }
 
-// The level that the role asks for.
-fn choose_level(level: RequestedPrivilege) -> u8
-    ensures { result ≡ level_of level }
-{
-    match level {
-        RequestedPrivilege::None => ADMINISTRATOR,
-        RequestedPrivilege::Level(b) => b,
-    }
-}
-
 // The role that message 1 and the codes have.
-fn make_role(level: RequestedPrivilege, lookup: Lookup) -> u8
+#[tactic(auto, unfolding(crate::specs::Role::role_of, messages::specs::Auth::is_level))]
+fn make_role(level: Option<u8>, lookup: Lookup) -> u8
     requires { level_allowed level ≡ true }
     ensures { result ≡ role_of level lookup }
 {
-    let b = choose_level(level);
+    let level = level.unwrap_or(ADMINISTRATOR);
     match lookup {
-        Lookup::NameAndLevel => b,
-        Lookup::NameOnly => b + NAME_ONLY,
-    }
-}
-
-// What Begin fixes for the whole exchange.
-fn fix_begun(asked: Asked, username: Username) -> Begun
-    requires { level_allowed asked.level ≡ true }
-    ensures { result ≡ begun_of asked username }
-{
-    Begun {
-        console: asked.console,
-        role: make_role(asked.level, asked.lookup),
-        username,
+        Lookup::NameAndLevel => level,
+        Lookup::NameOnly => level + NAME_ONLY,
     }
 }
 
 // The record that waits for the open response.
+#[tactic(auto, unfolding(crate::specs::Record::begun_with, crate::specs::Record::closed))]
 fn start_record(begun: Begun) -> Record
     ensures { result ≡ begun_with begun }
 {
@@ -88,7 +67,11 @@ fn write_request(asked: Asked, username: Username, out: &mut [u8]) -> Stepped
     requires { (request_size ≤ length out.old) × (level_allowed asked.level ≡ true) }
     ensures { StepPromise (accept (made_begin asked username)) closed out.old result out.new }
 {
-    let begun = fix_begun(asked, username);
+    let begun = Begun {
+        console: asked.console,
+        role: make_role(asked.level, asked.lookup),
+        username,
+    };
     let request = OpenSessionRequest {
         tag: OPEN_TAG,
         level: asked.level,
@@ -97,30 +80,24 @@ fn write_request(asked: Asked, username: Username, out: &mut [u8]) -> Stepped
         integrity: IntegrityAlgorithm::HmacSha1_96,
         confidentiality: ConfidentialityAlgorithm::AesCbc128,
     };
-    request.write_data(out);
     Stepped {
         state: start_record(begun),
         answer: Ok(()),
-        len: REQUEST_LEN,
+        len: request.write_data(out).unwrap(),
     }
 }
 
 // What is tested before anything is written: the id and the level, then the name, then the room. The name that passed.
+#[tactic(auto, unfolding(crate::specs::Steps::begin_of, refusal::specs::Order::need, refusal::specs::Order::and_then))]
 fn check_call(asked: Asked, name: &[u8], room: usize) -> Result<Username, Refusal>
     ensures { told_as (made_begin asked) result ≡ begin_of asked name.now room }
 {
     check_asked(asked)?;
-    let named = Username::new(name);
-    let answer = named.answer;
-    match answer {
-        Outcome::Refused(r) => Err(r),
-        Outcome::Done => {
-            if room < REQUEST_LEN {
-                return Err(Refusal::OutputTooShort);
-            }
-            Ok(named.username)
-        }
+    let username = Username::new(name)?;
+    if room < REQUEST_LEN {
+        return Err(Refusal::OutputTooShort);
     }
+    Ok(username)
 }
 
 // Begins an exchange: what is asked for, and the user's name. Writes the open session request.

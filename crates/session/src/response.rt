@@ -10,7 +10,8 @@ ghost use Rattle.session.specs.Steps.{carried, ready_open, heard_open, made_open
 ghost use Rattle.session.specs.Promise.{StepPromise};
 
 use crate::{Agreed, OPEN_TAG, Record, Step, Stepped, TAG_1, state};
-use messages::open_session::{OpenSessionAnswer, OpenSessionResponse};
+use messages::auth::{AuthenticationAlgorithm, ConfidentialityAlgorithm, IntegrityAlgorithm};
+use messages::open_session::OpenSessionResponse;
 use messages::rakp_1::{RakpMessage1, Username};
 use refusal::Refusal;
 use suite::{Confidentiality, Integrity};
@@ -19,90 +20,74 @@ use suite::{Confidentiality, Integrity};
 const UP_TO_NAME: usize = 28;
 
 // What is tested before the message is looked at.
+#[tactic(auto, using(crate::proofs::Chains::in_len), unfolding(crate::specs::Steps::ready_open, refusal::specs::Order::need))]
 fn check_call(state: Record, room: usize) -> Result<(), Refusal>
     ensures { told result ≡ ready_open state room }
 {
     if !state::is_in_step(state, Step::OpenResponse) {
         return Err(Refusal::WrongStep);
     }
-    let begun = state.begun;
-    let u = begun.username;
-    if room < UP_TO_NAME + u.len {
+    if room < UP_TO_NAME + state.begun.username.len {
         return Err(Refusal::OutputTooShort);
     }
     Ok(())
 }
 
 // Whether the algorithms are among those that this layer has.
+#[tactic(auto, unfolding(crate::specs::Steps::carried, messages::specs::OpenSession::response_numbers))]
 fn is_carried(r: OpenSessionResponse) -> bool
     ensures { result ≡ carried (response_numbers r) }
 {
-    let a = r.authentication;
-    let i = r.integrity;
-    let c = r.confidentiality;
-    if a.code() != 1 {
-        return false;
-    }
-    if 1 < i.code() {
-        return false;
-    }
-    c.code() <= 1
+    matches!(r.authentication, AuthenticationAlgorithm::RakpHmacSha1)
+        && matches!(
+            r.integrity,
+            IntegrityAlgorithm::None | IntegrityAlgorithm::HmacSha1_96
+        )
+        && matches!(
+            r.confidentiality,
+            ConfidentialityAlgorithm::None | ConfidentialityAlgorithm::AesCbc128
+        )
 }
 
 // The response by its own tests, then by tag, id and algorithms.
-fn read_response(state: Record, message: &[u8]) -> OpenSessionAnswer
+#[tactic(auto, unfolding(crate::specs::Steps::heard_open, messages::specs::OpenSession::response_numbers, refusal::specs::Order::need, refusal::specs::Order::and_then))]
+fn read_response(state: Record, message: &[u8]) -> Result<OpenSessionResponse, Refusal>
     ensures { told_open result ≡ heard_open state message.now }
 {
-    match OpenSessionResponse::from_data(message) {
-        OpenSessionAnswer::Refused(r) => OpenSessionAnswer::Refused(r),
-        OpenSessionAnswer::Response(r) => {
-            if r.tag != OPEN_TAG {
-                return OpenSessionAnswer::Refused(Refusal::MessageTagMismatch);
-            }
-            let begun = state.begun;
-            if r.console != begun.console {
-                return OpenSessionAnswer::Refused(Refusal::SessionIdMismatch);
-            }
-            if !is_carried(r) {
-                return OpenSessionAnswer::Refused(Refusal::AlgorithmNotCarried);
-            }
-            OpenSessionAnswer::Response(r)
-        }
+    let r = OpenSessionResponse::from_data(message)?;
+    if r.tag != OPEN_TAG {
+        return Err(Refusal::MessageTagMismatch);
     }
+    if r.console != state.begun.console {
+        return Err(Refusal::SessionIdMismatch);
+    }
+    if !is_carried(r) {
+        return Err(Refusal::AlgorithmNotCarried);
+    }
+    Ok(r)
 }
 
-// The algorithms of the codes that are carried: 0 is none.
-fn decode_confidentiality(code: u8) -> Confidentiality
-    ensures { result ≡ confidentiality_if (eqb code 0) }
-{
-    if code == 0 {
-        return Confidentiality::None;
-    }
-    Confidentiality::AesCbc128
-}
-
-fn decode_integrity(code: u8) -> Integrity
-    ensures { result ≡ integrity_if (eqb code 0) }
-{
-    if code == 0 {
-        return Integrity::None;
-    }
-    Integrity::HmacSha1_96
-}
-
-// What the response agrees to.
+// What the response agrees to. None is none here too; any other that is carried is the one that this layer has.
+#[tactic(auto, unfolding(crate::specs::Record::agreed_of, messages::specs::OpenSession::response_numbers))]
 fn agree(r: OpenSessionResponse) -> Agreed
     ensures { result ≡ agreed_of (response_numbers r) }
 {
-    let i = r.integrity;
-    let c = r.confidentiality;
+    let confidentiality = match r.confidentiality {
+        ConfidentialityAlgorithm::None => Confidentiality::None,
+        _ => Confidentiality::AesCbc128,
+    };
+    let integrity = match r.integrity {
+        IntegrityAlgorithm::None => Integrity::None,
+        _ => Integrity::HmacSha1_96,
+    };
     Agreed {
-        confidentiality: decode_confidentiality(c.code()),
-        integrity: decode_integrity(i.code()),
+        confidentiality,
+        integrity,
     }
 }
 
 // The record with the system's id, the console's random number, and what was agreed.
+#[tactic(auto, unfolding(crate::specs::Record::answered, messages::specs::OpenSession::response_numbers))]
 fn add_response(state: Record, r: OpenSessionResponse, rm: [u8; 16]) -> Record
     ensures { result ≡ answered state (response_numbers r) rm }
 {
@@ -115,33 +100,22 @@ fn add_response(state: Record, r: OpenSessionResponse, rm: [u8; 16]) -> Record
     }
 }
 
-// The name's length. What else it promises, that both arrays have sixteen bytes, a caller's proof needs.
-fn measure_name(u: Username, rm: [u8; 16]) -> usize
-    ensures { (result ≡ u.len) × (length u.bytes ≡ 16) × (length rm ≡ 16) }
-{
-    u.len
-}
-
 // Writes message 1, beside the record with the response.
 fn write_message_1(state: Record, r: OpenSessionResponse, rm: [u8; 16], out: &mut [u8]) -> Stepped
     requires { (one_size state.begun.username.len ≤ length out.old) × (state.begun.username.len ≤ 16) }
     ensures { StepPromise (accept (made_open state rm (response_numbers r))) state out.old result out.new }
 {
-    let begun = state.begun;
-    let username = begun.username;
-    let n = measure_name(username, rm);
     let message = RakpMessage1 {
         tag: TAG_1,
         system: r.system,
         random: rm,
-        role: begun.role,
-        username,
+        role: state.begun.role,
+        username: state.begun.username,
     };
-    message.write(out);
     Stepped {
         state: add_response(state, r, rm),
         answer: Ok(()),
-        len: UP_TO_NAME + n,
+        len: message.write(out).unwrap(),
     }
 }
 
@@ -153,7 +127,7 @@ pub fn open_response(state: Record, message: &[u8], rm: [u8; 16], out: &mut [u8]
         return state::refuse(state, r);
     }
     match read_response(state, message) {
-        OpenSessionAnswer::Refused(r) => state::refuse(state::make_closed(), r),
-        OpenSessionAnswer::Response(r) => write_message_1(state, r, rm, out),
+        Err(r) => state::refuse(state::make_closed(), r),
+        Ok(r) => write_message_1(state, r, rm, out),
     }
 }

@@ -1,6 +1,6 @@
 // Records: a closed one, in which step one is, and the session that an open one becomes.
 ghost use Rattle.std.specs.Prelude.{◌≡◌};
-ghost use Rattle.session.specs.Record.{step_number, in_step, no_keys, none_agreed, closed};
+ghost use Rattle.session.specs.Record.{step_number, in_step, closed};
 ghost use Rattle.session.specs.Promise.{SessionPromise};
 ghost use Rattle.session.specs.Parts.{refused_at};
 
@@ -11,34 +11,16 @@ use refusal::Refusal;
 use suite::{Confidentiality, Integrity, SubState};
 
 // Whether a record is in this step; one whose name is longer than its sixteen bytes is in none.
+#[tactic(auto, unfolding(crate::specs::Record::in_step))]
 pub(crate) fn is_in_step(state: Record, step: Step) -> bool
     ensures { result ≡ in_step state (step_number step) }
 {
     state.step == step && state.begun.username.len <= 16
 }
 
-// No keys, before message 2.
-fn zero_keys() -> Keys
-    ensures { result ≡ no_keys }
-{
-    Keys {
-        sik: [0u8; 20],
-        k1: [0u8; 20],
-        k2: [0u8; 20],
-    }
-}
-
-// No algorithm, before the open response.
-fn agree_none() -> Agreed
-    ensures { result ≡ none_agreed }
-{
-    Agreed {
-        confidentiality: Confidentiality::None,
-        integrity: Integrity::None,
-    }
-}
-
-// A closed record holds only zeros.
+// A closed record holds only zeros: no keys, as before message 2, and no algorithm, as before the open response. The zeros are written out, since
+// `Default` would have to be derived for types of three other crates, none of which need it.
+#[tactic(auto, unfolding(crate::specs::Record::closed, crate::specs::Record::none_begun, crate::specs::Record::no_keys, crate::specs::Record::none_agreed))]
 pub(crate) fn make_closed() -> Record
     ensures { result ≡ closed }
 {
@@ -55,8 +37,15 @@ pub(crate) fn make_closed() -> Record
         system: 0,
         rm: [0u8; 16],
         guid: [0u8; 16],
-        keys: zero_keys(),
-        agreed: agree_none(),
+        keys: Keys {
+            sik: [0u8; 20],
+            k1: [0u8; 20],
+            k2: [0u8; 20],
+        },
+        agreed: Agreed {
+            confidentiality: Confidentiality::None,
+            integrity: Integrity::None,
+        },
     }
 }
 
@@ -72,16 +61,16 @@ pub(crate) fn refuse(state: Record, r: Refusal) -> Stepped
 }
 
 // The session that an open record becomes, which frames are read and written with; any other record is refused.
+#[tactic(auto, unfolding(crate::specs::Promise::session_with, refusal::specs::Order::need))]
 pub fn sub_state(state: Record) -> Result<SubState, Refusal>
     ensures { SessionPromise state result }
 {
     if !is_in_step(state, Step::Open) {
         return Err(Refusal::WrongStep);
     }
-    let agreed = state.agreed;
     Ok(SubState {
         keys: state.keys,
-        confidentiality: agreed.confidentiality,
-        integrity: agreed.integrity,
+        confidentiality: state.agreed.confidentiality,
+        integrity: state.agreed.integrity,
     })
 }

@@ -1,13 +1,24 @@
 -- `write_request` keeps its promise: the request's 32 bytes and the record.
+use mathlib.Core.Path.{refl, ◌∙◌, ap}
 use native.Mathlib.Omega.{arith}
-use Rattle.session.specs.Steps.{request_of}
-use Rattle.session.proofs.Makes.{begin_made}
+use Prim.Native.Nat.{ℕ}
+use Rattle.session.specs.Record.{closed, begun_of, begun_with}
+use Rattle.session.specs.Steps.{request_of, made_begin}
+use Rattle.session.specs.declared.Begun.{Begun}
+use Rattle.session.proofs.Makes.{is_written, step_written, request_length}
 use Rattle.session.proofs.request.write_request.Goals as goal
 
-pub returns : goal.returns
+pub unwrap-requires : goal.unwrap-requires
 unfolding request_of
+unwrap-requires c =
+    let l = request_length c.args.asked in
+    is_written (request_of c.args.asked) c.args.out.now _ _ c.write_data.ensures (omega arith)
+
+pub returns : goal.returns
+unfolding request_of begun_of made_begin
 returns c =
     let a = c.args in
-    let fixed = c.fix_begun-begun.ensures in
-    let wrote = c.write_data.ensures in
-    begin_made a.asked a.username a.out.now _ _ _ _ fixed c.start_record.ensures wrote (omega arith)
+    let l = request_length a.asked in
+    let b : ℕ → Begun = λ r. record { console = a.asked.console; role = r; username = a.username } in
+    step_written (request_of a.asked) a.out.now _ _ c.write_data.ensures (omega arith) _ (made_begin a.asked a.username) closed _ c.unwrap.ensures refl
+    (c.start_record.ensures ∙ ap (λ r. begun_with (b r)) c.make_role.ensures)

@@ -1,8 +1,7 @@
 -- `open_response` keeps its promise: the first stage keeps the record, the second closes it, the third writes.
 use Rattle.session.specs.Steps.{open_of}
 use lib.ListN.{length}
-use Rattle.messages.specs.Answers.{told_open}
-use mathlib.Core.Path.{sym, ◌∙◌, ap}
+use mathlib.Core.Path.{sym}
 use Rattle.refusal.proofs.Order.{then_refuse}
 use Rattle.session.proofs.Chains.{open_known}
 use Rattle.session.proofs.Refusals.{ready_open_keeps, heard_open_shuts}
@@ -11,8 +10,7 @@ use Rattle.session.proofs.response.open_response.Goals as goal
 
 pub write_message_1-requires : goal.write_message_1-requires
 write_message_1-requires c =
-    let a = c.args in
-    let k = open_known a.state (length a.out.now) (sym c.in_default.ensures) in
+    let k = open_known c.args.state (length c.args.out.now) (sym c.in_default.ensures) in
     (k.1, k.0)
 
 pub returns-in-Err : goal.returns-in-Err
@@ -22,17 +20,16 @@ returns-in-Err c =
     let e = sym c.in-Err.ensures in
     kept _ a.state a.out.now c.in-Err.r _ (then_refuse _ _ _ _ e) (ready_open_keeps a.state _ _ _ e) c.refuse.ensures
 
-pub returns-in-Refused : goal.returns-in-Refused
+pub returns-in-Err-read_response : goal.returns-in-Err-read_response
 unfolding open_of
-returns-in-Refused c =
+returns-in-Err-read_response c =
     let a = c.args in
-    let u = sym c.read_response.ensures ∙ ap told_open c.in-Refused.is in
+    let r = c.in-Err-read_response in
+    let u = sym r.ensures in
     let k = heard_open_shuts a.state a.message.now _ _ u in
-    shut _ a.state a.out.now c.in-Refused.r _ _ (second_stop _ _ _ tt _ _ (sym c.in_default.ensures) u) k c.make_closed.ensures c.refuse-in-Refused.ensures
+    shut _ a.state a.out.now r.r _ _ (second_stop _ _ _ tt _ _ (sym c.in_default.ensures) u) k c.make_closed.ensures c.refuse-in-Err-read_response.ensures
 
-pub returns-in-Response : goal.returns-in-Response
+pub returns-in-Ok : goal.returns-in-Ok
 unfolding open_of
-returns-in-Response c =
-    let a = c.args in
-    let u = sym c.read_response.ensures ∙ ap told_open c.in-Response.is in
-    promise_as _ _ a.state a.out.now _ _ (second_go _ _ _ tt _ (sym c.in_default.ensures) u) c.write_message_1.ensures
+returns-in-Ok c =
+    promise_as _ _ c.args.state c.args.out.now _ _ (second_go _ _ _ tt _ (sym c.in_default.ensures) (sym c.in-Ok.ensures)) c.write_message_1.ensures

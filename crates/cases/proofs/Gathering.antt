@@ -2,7 +2,7 @@
 use Prim.Native.Nat.{ℕ, suc, ◌+◌, ◌-◌, ◌≤◌, ◌<◌}
 use native.Mathlib.Omega.{arith}
 use mathlib.Core.Bool.{true, false}
-use mathlib.Core.List.{List, []}
+use mathlib.Core.List.{List}
 use mathlib.Core.Path.{◌≡◌, refl, sym, ◌∙◌, ap}
 use lib.Dec.{leb}
 use lib.ListN.{length, take, drop, length-drop}
@@ -15,7 +15,7 @@ use Rattle.text.proofs.Cuts.{upto_take}
 use Rattle.text.proofs.Writing.{add_of}
 use Rattle.octets.specs.Place.{part}
 use Rattle.cases.specs.Fields.{part_of}
-use Rattle.cases.specs.Input.{left, found, ends, GatherPromise, line_of}
+use Rattle.cases.specs.Input.{left, found, ends, GatherPromise}
 use Rattle.cases.specs.declared.input.Input.{Input}
 use Rattle.octets.proofs.Order.{by_cases, cond_true, cond_false}
 use Rattle.cases.proofs.Parts.{part_there, part_past, part_turned}
@@ -78,12 +78,3 @@ module _ (s : Input) (piece line p q : List ℕ) (n : ℕ) (f : p ≡ left s pie
         let t : ends s piece ≡ false = le-ltb (length (found s piece)) (length (left s piece)) (omega (arith, count_is.0, count_is.1)) in
         let o = cond_false (ends s piece) (s.from + suc (length (found s piece))) s.to t in
         record { added = added; from = sym o; to = refl; whole = sym t }
-
-module _ (l : List ℕ) (c : Cursor) where
-  pub line_full : c.full ≡ true → part_of l 0 0 ≡ line_of l c
-  unfolding line_of
-  line_full e = let h : 0 ≤ 0 = omega arith in let k : 0 ≤ length l = omega arith in sym (part_there l 0 0 h k) ∙ sym (cond_true c.full [] _ e)
-
-  pub line_taken : c.full ≡ false → part_of l 0 c.at ≡ line_of l c
-  unfolding line_of
-  line_taken e = sym (cond_false c.full [] (part_of l 0 c.at) e)

@@ -4,8 +4,7 @@ use mathlib.Core.List.{List, []}
 use mathlib.Core.Path.{◌≡◌}
 use lib.ListN.{length, take, drop}
 use borrow.Author.Tests.{le-leb, lt-leb}
-use Rattle.cases.specs.Fields.{lies, part_of, part_at}
-use Rattle.octets.proofs.Order.{by_cases, cond_true, cond_false}
+use Rattle.cases.specs.Fields.{part_of, part_at}
 
 module _ (l : List ℕ) (a e : ℕ) where
   module _ (h : a ≤ e) (k : e ≤ length l) where
@@ -22,20 +21,7 @@ module _ (l : List ℕ) (a e : ℕ) where
     unfolding part_of
     part_past = rw (le-leb a e h, lt-leb e (length l) k)
 
-    pub part_past_at : part_at l a e ≡ 0
-    unfolding part_at
-    part_past_at = rw (le-leb a e h, lt-leb e (length l) k)
-
   module _ (h : e < a) where
     pub part_turned : [] ≡ part_of l a e
     unfolding part_of
     part_turned = rw (lt-leb a e h)
-
-    pub part_turned_at : part_at l a e ≡ 0
-    unfolding part_at
-    part_turned_at = rw (lt-leb a e h)
-
--- a part from the start on begins at the start, also where it is none
-pub start_at : (l : List ℕ) (e : ℕ) → part_at l 0 e ≡ 0
-unfolding part_at
-start_at l e = by_cases (lies l 0 e) (cond_true (lies l 0 e) 0 0) (cond_false (lies l 0 e) 0 0)

@@ -152,15 +152,12 @@ module _ (s : List ℕ) (ws : List (List ℕ)) (k : ℕ) (p : place_of s ws ≡ 
       let z : place_of s (drop k ws) ≡ 0 = ap (place_of s) (drop-cons ws k [] h) ∙ rw e in
       omega arith
 
-  pub word-not : k < length ws → same (get_or ws k []) s ≡ false → place_of s ws ≡ k + 1 + place_of s (drop (k + 1) ws)
-  word-not h e =
+  pub word_not : k < length ws → same (get_or ws k []) s ≡ false → place_of s ws ≡ k + 1 + place_of s (drop (k + 1) ws)
+  word_not h e =
       let z : place_of s (drop k ws) ≡ suc (place_of s (drop (suc k) ws)) = ap (place_of s) (drop-cons ws k [] h) ∙ rw e in
       let o : place_of s (drop (suc k) ws) ≡ place_of s (drop (k + 1) ws) = ap (λ (j : ℕ). place_of s (drop j ws)) (sym (add-one k)) in
       omega arith
 
-  pub word_none : length ws ≤ k → k ≡ place_of s ws
-  word_none h = let z : place_of s (drop k ws) ≡ 0 = ap (place_of s) (drop_of_length-le ws h) in omega arith
-
 -- what the comparison with a field told
-pub word-found : (f w s : List ℕ) (t u : Bool) → f ≡ w → t ≡ same f s → t ≡ u → same w s ≡ u
-word-found f w s t u e g h = ap (λ (q : List ℕ). same q s) (sym e) ∙ sym g ∙ h
+pub word_found : (f w s : List ℕ) (t u : Bool) → f ≡ w → t ≡ same f s → t ≡ u → same w s ≡ u
+word_found f w s t u e g h = ap (λ (q : List ℕ). same q s) (sym e) ∙ sym g ∙ h

@@ -1,7 +1,8 @@
 -- The room that is lent to a call (docs/REPLAY.md): bytes EE, so that it shows where one was written.
-use Rattle.std.specs.Prelude.{ℕ, Bool, true, ◌&&◌, cond, List, [], ◌∷◌, leb, eqb, length, replicate}
+use Rattle.std.specs.Prelude.{ℕ, Bool, cond, List, [], ◌∷◌, leb, eqb, length, replicate}
 use Rattle.octets.specs.Place.{begun}
 use Rattle.cases.specs.Fields.{part_of}
+use Rattle.std.specs.List.{list_all}
 
 -- the byte that stands everywhere in a room that is lent
 abbrev pub lent_byte : ℕ
@@ -13,8 +14,7 @@ lent_of n d = cond (leb n (length d)) (begun (replicate n lent_byte) d) d
 
 -- whether each byte is as it was lent
 abbrev pub untouched : List ℕ → Bool
-untouched [] = true
-untouched (b ∷ l) = eqb b lent_byte && untouched l
+untouched l = list_all (λ b. eqb b lent_byte) l
 
 -- ` spilled`
 abbrev pub spilled_word : List ℕ

@@ -8,6 +8,7 @@ use refusal::Refusal;
 use text::Cursor;
 
 // Bytes in hex, `-` for none.
+#[tactic(auto, unfolding(crate::specs::Answer::shown))]
 fn show_bytes(out: &mut [u8], c: Cursor, s: &[u8]) -> Cursor
     ensures { AddPromise out.old c (shown s.now) result out.new }
 {
@@ -42,12 +43,13 @@ pub fn say_id(out: &mut [u8], c: Cursor, word: &[u8], n: u32) -> Cursor
 }
 
 // `refused`, the number, and the byte where one is carried.
+#[tactic(auto, unfolding(crate::specs::Answer::refusal_pieces))]
 pub fn say_refusal(out: &mut [u8], c: Cursor, r: Refusal) -> Cursor
     ensures { SayPromise out.old c (refusal_pieces r) result out.new }
 {
-    let c = say_number(out, c, b"refused ", u32::from(r.number()));
+    let c = say_number(out, c, b"refused ", r.number() as u32);
     match r.value() {
+        Some(v) => say_number(out, c, b" ", v as u32),
         None => c,
-        Some(v) => say_number(out, c, b" ", u32::from(v)),
     }
 }

@@ -17,6 +17,7 @@ pub struct Input {
 }
 
 // Adds what the piece has of the line, and goes past the newline, where there is one.
+#[tactic(auto, using(crate::proofs::Gathering::gather_room))]
 pub fn gather(s: Input, piece: &[u8], line: &mut [u8]) -> Input
     ensures { GatherPromise s piece.now line.old result line.new }
 {
@@ -42,6 +43,7 @@ pub fn gather(s: Input, piece: &[u8], line: &mut [u8]) -> Input
 }
 
 // The line that was gathered. One that is longer than is taken counts as an empty one, which is bad too.
+#[tactic(auto, unfolding(crate::specs::Input::line_of, crate::specs::Fields::part_of, crate::specs::Fields::part_at))]
 pub fn pick_line(line: &[u8], c: Cursor) -> &[u8]
     ensures { (result.now ≡ line_of line.now c)
         × (result.ref_ptr.0 ≡ line.entry.ref_ptr.0)

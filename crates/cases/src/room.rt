@@ -10,6 +10,7 @@ use text::Cursor;
 const LENT: u8 = 0xee;
 
 // Makes the first n bytes of the room as they are lent; none where it has fewer.
+#[tactic(auto, unfolding(crate::specs::Room::lent_of, octets::specs::Place::begun))]
 pub fn fill_room(room: &mut [u8], n: usize)
     ensures { room.new ≡ lent_of n room.old }
 {
@@ -26,6 +27,7 @@ fn is_untouched(s: &[u8]) -> bool
 }
 
 // ` spilled`, where a byte of the room from `from` up to `to` is not as it was lent.
+#[tactic(auto, unfolding(crate::specs::Room::spill_pieces))]
 pub fn say_spill(out: &mut [u8], c: Cursor, room: &[u8], from: usize, to: usize) -> Cursor
     ensures { SayPromise out.old c (spill_pieces room.now from to) result out.new }
 {

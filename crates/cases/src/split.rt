@@ -4,6 +4,7 @@ ghost use Rattle.text.specs.Fields.{cut};
 ghost use Rattle.cases.specs.Fields.{part_of, part_at, past_of, behind_at, field_of, place_of};
 
 // The bytes from `from` up to `to`; none where there is no such part.
+#[tactic(auto, unfolding(crate::specs::Fields::part_of, crate::specs::Fields::part_at))]
 pub fn pick_part(s: &[u8], from: usize, to: usize) -> &[u8]
     ensures { (result.now ≡ part_of s.now from to)
         × (result.ref_ptr.0 ≡ s.entry.ref_ptr.0)
@@ -17,6 +18,7 @@ pub fn pick_part(s: &[u8], from: usize, to: usize) -> &[u8]
 }
 
 // Where the field behind the one at `at` starts; the line's end where there is none.
+#[tactic(auto, unfolding(crate::specs::Fields::past_of))]
 pub fn pass_field(line: &[u8], at: usize, separator: u8) -> usize
     ensures { result ≡ past_of separator line.now at }
 {
@@ -30,6 +32,7 @@ pub fn pass_field(line: &[u8], at: usize, separator: u8) -> usize
 
 // The field that k others stand before; where there is none, nothing, at the line's end. No case has an empty field, so
 // that is bad in every case.
+#[tactic(auto, using(crate::proofs::Walk::field_part, crate::proofs::Walk::field_at))]
 pub fn pick_field(line: &[u8], k: usize) -> &[u8]
     ensures { (result.now ≡ field_of line.now k)
         × (result.ref_ptr.0 ≡ line.entry.ref_ptr.0)
@@ -43,6 +46,7 @@ pub fn pick_field(line: &[u8], k: usize) -> &[u8]
 }
 
 // Which of the words, parted by spaces, a text is; as many as they are where it is none.
+#[tactic(auto, using(crate::proofs::Walk::word_here, crate::proofs::Walk::word_not, crate::proofs::Walk::word_found), unfolding(crate::specs::Fields::field_of))]
 pub fn look_up(words: &[u8], s: &[u8]) -> usize
     ensures { result ≡ place_of s.now (cut 0x20 words.now) }
 {

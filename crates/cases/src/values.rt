@@ -17,6 +17,7 @@ pub struct Span {
 }
 
 // Puts the bytes that a text says into `out` at `at`.
+#[tactic(auto, using(crate::proofs::Reading::dash_odd), unfolding(crate::specs::Values::span_of, crate::specs::Values::readable))]
 fn unhex_text(s: &[u8], out: &mut [u8], at: usize) -> Option<Span>
     ensures { BytesPromise out.old at s.now result out.new }
 {
@@ -51,6 +52,7 @@ pub fn read_exact<const N: usize>(line: &[u8], k: usize) -> Option<[u8; N]>
 }
 
 // A decimal field that is at most `most`.
+#[tactic(auto, using(text::proofs::Reading::number_most))]
 pub fn read_decimal(line: &[u8], k: usize, most: u32) -> Option<u32>
     ensures { result ≡ number_in 10 most (field_of line.now k) }
 {

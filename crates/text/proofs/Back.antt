@@ -20,7 +20,7 @@ use Rattle.text.specs.Promise.{number_in, word_in, hexed}
 use Rattle.text.specs.Line.{line_of}
 use Rattle.text.proofs.Digits.{worth-digit, digit-worth}
 use Rattle.text.proofs.Tens.{decimal_small, decimal-more, decimal_some}
-use Rattle.text.proofs.Writing.{length-hex}
+use Rattle.text.proofs.Writing.{length_hex}
 use Rattle.text.proofs.Reading.{digits_both, hexed_yes, left, number_some}
 
 value_snoc : (b v : ℕ) (s : List ℕ) (c : ℕ) → value b v (s ++ (c ∷ [])) ≡ value b v s * b + worth c
@@ -140,7 +140,7 @@ digits-hex (b ∷ l) h =
     ∙ digits-hex l (bytes_tail b l h)
 
 pub hexed-hex : (l : List ℕ) → Bytes l → hexed (hex l) ≡ true
-hexed-hex l h = hexed_yes (hex l) (omega (arith, length-hex l)) (digits-hex l h)
+hexed-hex l h = hexed_yes (hex l) (omega (arith, length_hex l)) (digits-hex l h)
 
 hex_of : (s : List ℕ) → length s % 2 ≡ 0 → digits 16 s ≡ true → hex (pairs s) ≡ s
 hex_of [] e f = refl

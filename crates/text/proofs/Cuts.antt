@@ -30,8 +30,8 @@ on_first-length x [] h = absurd (omega arith)
 on_first-length x (f ∷ fs) h = refl
 
 -- there is one field more than there are separators
-pub cut-count : (c : ℕ) (l : List ℕ) → length (cut c l) ≡ suc (count_by (λ x. eqb x c) l)
-cut-count c l = omega (arith, cut_some c l, is_count_by (λ (m : List ℕ). length (cut c m) - 1) (λ x. eqb x c) refl separators l)
+pub length_cut : (c : ℕ) (l : List ℕ) → length (cut c l) ≡ suc (count_by (λ x. eqb x c) l)
+length_cut c l = omega (arith, cut_some c l, is_count_by (λ (m : List ℕ). length (cut c m) - 1) (λ x. eqb x c) refl separators l)
   where
     separators : (x : ℕ) (m : List ℕ) → length (cut c (x ∷ m)) - 1 ≡ cond (eqb x c) (1 + (length (cut c m) - 1)) (length (cut c m) - 1)
     separators x m = by_test (eqb x c)

@@ -1,22 +1,19 @@
--- Laws of reading numbers and bytes: the turns of each loop, and each way out of the calls.
+-- Laws of reading numbers and bytes: the turns of each loop, and the ways out of reading a number.
 use Prim.Native.Nat.{ℕ, zero, suc, ◌+◌, ◌*◌, ◌/◌, ◌%◌, ◌^◌, ◌<◌, ◌≤◌}
 use native.Mathlib.Omega.{arith}
 use native.Mathlib.Nat.{le-mul_of_pos_right, mul-le-mul_right, mul_assoc, pow-succ'}
 use native.Mathlib.Numerals.{add-one}
 use mathlib.Core.Bool.{Bool, true, false, ◌&&◌, cond, and-false}
 use mathlib.Core.List.{List, [], ◌∷◌, ◌++◌, append_assoc}
-use Rattle.std.specs.Prelude.{Option, Some, None, Ok, Err}
+use Rattle.std.specs.Prelude.{Option, Some, None}
 use mathlib.Core.Path.{◌≡◌, refl, sym, ◌∙◌, ap, ap₂}
-use lib.Dec.{leb, ltb, eqb}
+use lib.Dec.{leb, ltb}
 use lib.ListN.{length, get_or, take, drop, set, drop_of_length-le}
 use lib.Seq.{drop-cons, take-suc, length-take-le}
 use borrow.Author.Tests.{lt-ltb, le-ltb, le-leb, lt-leb, eq-eqb, ne_eqb, leb-true, ltb-true}
-use Rattle.std.specs.List.{list_all}
 use Rattle.octets.specs.Place.{pasted}
-use Rattle.octets.proofs.Place.{placed-fits, placed-not}
 use Rattle.text.specs.Digits.{worth, digits, value, pairs}
-use Rattle.text.specs.Promise.{numeral, number_in, word_in, hexed, UnhexPromise}
-use Rattle.text.specs.declared.read.UnhexError.TheVariants.{Bad, NoRoom}
+use Rattle.text.specs.Promise.{numeral, number_in, word_in, hexed}
 use Rattle.octets.proofs.Place.{pasted-more}
 
 -- more digits make no number less
@@ -92,11 +89,6 @@ number_most b most v s e = by_tests (numeral b s) (leb (value b 0 s) most) refl 
     by_tests true false f g = let z : ◌≡◌ {A = ℕ} 0 1 = cc in absurd (omega arith)
     by_tests false u f g = let z : ◌≡◌ {A = ℕ} 0 1 = cc in absurd (omega arith)
 
--- all characters are digits exactly where each passes the test
-pub digits-all : (b : ℕ) (s : List ℕ) → digits b s ≡ list_all (λ c. ltb (worth c) b) s
-digits-all b [] = refl
-digits-all b (c ∷ s) = ap (λ (t : Bool). ltb (worth c) b && t) (digits-all b s)
-
 -- digits: the first is one, and so are the others
 pub digits_both : (b c : ℕ) (s : List ℕ) → digits b (c ∷ s) ≡ true → (worth c < b) × (digits b s ≡ true)
 digits_both b c s e = by_test (ltb (worth c) b) refl e
@@ -106,10 +98,10 @@ digits_both b c s e = by_test (ltb (worth c) b) refl e
     by_test false f g = let z : ◌≡◌ {A = ℕ} 0 1 = cc in absurd (omega arith)
 
 -- each character of digits is one
-pub digits-at : (b i : ℕ) (s : List ℕ) → digits b s ≡ true → i < length s → worth (get_or s i 0) < b
-digits-at b i [] e h = absurd (omega arith)
-digits-at b zero (c ∷ s) e h = (digits_both b c s e).0
-digits-at b (suc i) (c ∷ s) e h = digits-at b i s (digits_both b c s e).1 (omega arith)
+pub digits_at : (b i : ℕ) (s : List ℕ) → digits b s ≡ true → i < length s → worth (get_or s i 0) < b
+digits_at b i [] e h = absurd (omega arith)
+digits_at b zero (c ∷ s) e h = (digits_both b c s e).0
+digits_at b (suc i) (c ∷ s) e h = digits_at b i s (digits_both b c s e).1 (omega arith)
 
 -- pairs are half as many as their characters
 pub length_pairs : (s : List ℕ) → length (pairs s) ≡ length s / 2
@@ -145,35 +137,9 @@ pair_turn x d s a i v e h k f =
     ∙ ap (pasted d a) (sym (pairs-snoc t _ _ p) ∙ ap pairs (sym (take_two s (2 * i) (omega arith)) ∙ ap (λ (j : ℕ). take j s) o))
 
 -- whether the characters are bytes in hex
-pub hexed_odd : (s : List ℕ) → (length s % 2 ≡ 0 → ⊥) → hexed s ≡ false
-unfolding hexed
-hexed_odd s n = ap (λ (t : Bool). t && digits 16 s) (ne_eqb (length s % 2) 0 n)
-
-pub hexed-not : (s : List ℕ) → digits 16 s ≡ false → hexed s ≡ false
-unfolding hexed
-hexed-not s e = ap (λ (t : Bool). eqb (length s % 2) 0 && t) e ∙ and-false (eqb (length s % 2) 0)
-
 pub hexed_yes : (s : List ℕ) → length s % 2 ≡ 0 → digits 16 s ≡ true → hexed s ≡ true
 unfolding hexed
 hexed_yes s e f = ap₂ ◌&&◌ (eq-eqb (length s % 2) 0 e) f
-
--- the ways out of reading bytes
-pub unhex_bad : (d : List ℕ) (a : ℕ) (s : List ℕ) → hexed s ≡ false → UnhexPromise d a s (Err Bad) d
-unhex_bad d a s e = record { answer = rw e; buffer = rw e }
-
-pub unhex_full : (d : List ℕ) (a : ℕ) (s : List ℕ) → hexed s ≡ true → length d < a + length s / 2 → UnhexPromise d a s (Err NoRoom) d
-unhex_full d a s e h =
-    let k : length d < a + length (pairs s) = omega (arith, length_pairs s) in
-    record { answer = rw (e, lt-leb (a + length (pairs s)) (length d) k); buffer = rw e (sym (placed-not d a (pairs s) k)) }
-
-pub unhex_done : (d : List ℕ) (a : ℕ) (s x : List ℕ) → hexed s ≡ true → a + length s / 2 ≤ length d → x ≡ pasted d a (pairs s)
-    → UnhexPromise d a s (Ok (length s / 2)) x
-unhex_done d a s x e h f =
-    let k : a + length (pairs s) ≤ length d = omega (arith, length_pairs s) in
-    record {
-      answer = rw (e, le-leb (a + length (pairs s)) (length d) k) (ap Ok (sym (length_pairs s)));
-      buffer = rw e (f ∙ sym (placed-fits d a (pairs s) k));
-    }
 
 -- digits in hex say a number below the power of sixteen that has as many zeros
 value_below : (v : ℕ) (s : List ℕ) → digits 16 s ≡ true → value 16 v s < (v + 1) * 16 ^ length s
@@ -201,9 +167,9 @@ word_number s e = by_test (digits 16 s) refl
         rw (lt-ltb 0 (length s) h, le-leb (value 16 0 s) 0xffff_ffff (big f))
     by_test false f = let h : 0 < length s = omega arith in rw (lt-ltb 0 (length s) h)
 
-pub word-not : (s : List ℕ) → (length s ≡ 8 → ⊥) → None ≡ word_in s
+pub word_not : (s : List ℕ) → (length s ≡ 8 → ⊥) → None ≡ word_in s
 unfolding word_in
-word-not s n = rw (ne_eqb (length s) 8 n)
+word_not s n = rw (ne_eqb (length s) 8 n)
 
 pub word_value : (s : List ℕ) (v : ℕ) → length s ≡ 8 → Some v ≡ number_in 16 0xffff_ffff s → Some v ≡ word_in s
 unfolding word_in

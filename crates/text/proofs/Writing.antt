@@ -1,85 +1,25 @@
--- Laws of writing at a cursor: when a piece goes in, and what the buffer holds after the turns of each loop.
+-- Laws of writing at a cursor: how long a piece is, and what the buffer holds after the turns of each loop.
 use Prim.Native.Nat.{ℕ, suc, ◌+◌, ◌-◌, ◌*◌, ◌/◌, ◌%◌, ◌<◌, ◌≤◌}
 use native.Mathlib.Omega.{arith}
 use native.Mathlib.Numerals.{add-one}
-use mathlib.Core.Bool.{Bool, true, false, ◌&&◌, not, and-false}
 use mathlib.Core.List.{List, [], ◌∷◌, ◌++◌}
-use mathlib.Core.Logic.{⊎_elim}
 use mathlib.Core.Path.{◌≡◌, refl, sym, ◌∙◌, ap, ap₂}
-use lib.Dec.{leb}
 use lib.ListN.{length, get_or, take, drop, set, length-append}
 use lib.Seq.{length-take-le, take-suc, append_snoc}
-use borrow.Author.Tests.{le-leb, lt-leb, leb-true}
 use Rattle.octets.specs.Place.{pasted}
-use Rattle.octets.proofs.Order.{lt_or_le}
 use Rattle.octets.proofs.Place.{pasted-more, drop-set}
 use Rattle.text.specs.Digits.{digit, decimal, hex, hex8}
-use Rattle.text.specs.Promise.{takes, AddPromise}
+use Rattle.text.specs.Promise.{AddPromise}
 use Rattle.text.specs.declared.write.Cursor.{Cursor}
 use Rattle.text.proofs.Tens.{decimal_small, decimal-more, decimal_some}
-
--- a full cursor takes nothing
-pub takes_full : (c : Cursor) (m n : ℕ) → c.full ≡ true → takes c m n ≡ false
-unfolding takes
-takes_full c m n e = ap (λ (t : Bool). not t && leb (c.at + n) m) e
-
--- nor does one without the room
-pub takes_short : (c : Cursor) (m n : ℕ) → m < c.at + n → takes c m n ≡ false
-unfolding takes
-takes_short c m n h = ap (λ (t : Bool). not c.full && t) (lt-leb (c.at + n) m h) ∙ and-false (not c.full)
-
--- any other goes by the room
-pub takes_room : (c : Cursor) (m n : ℕ) → c.full ≡ false → n ≤ m → leb c.at (m - n) ≡ takes c m n
-unfolding takes
-takes_room c m n e h =
-    ⊎_elim
-    (λ (k : m < c.at + n).
-    lt-leb c.at (m - n) (omega arith) ∙ sym (ap (λ (t : Bool). not t && leb (c.at + n) m) e ∙ lt-leb (c.at + n) m k))
-    (λ (k : c.at + n ≤ m).
-    le-leb c.at (m - n) (omega arith) ∙ sym (ap (λ (t : Bool). not t && leb (c.at + n) m) e ∙ le-leb (c.at + n) m k))
-    (lt_or_le m (c.at + n))
-
-by_flag : (f : Bool) (c : Cursor) (m n : ℕ) → (not f && leb (c.at + n) m) ≡ true → c.at + n ≤ m
-by_flag true c m n e = let z : ◌≡◌ {A = ℕ} 0 1 = cc in absurd (omega arith)
-by_flag false c m n e = leb-true (c.at + n) m e
-
--- where a piece goes in there is room
-pub takes-fits : (c : Cursor) (m n : ℕ) → takes c m n ≡ true → c.at + n ≤ m
-unfolding takes
-takes-fits c m n e = by_flag c.full c m n e
-
--- a piece that went in
-pub add_yes : (d : List ℕ) (c : Cursor) (s x : List ℕ) → takes c (length d) (length s) ≡ true → x ≡ pasted d c.at s
-    → AddPromise d c s (record { at = c.at + length s; full = false }) x
-add_yes d c s x e f = record { cursor = rw e; buffer = rw e f }
-
--- a piece that did not
-pub add_no : (d : List ℕ) (c : Cursor) (s : List ℕ) → takes c (length d) (length s) ≡ false
-    → AddPromise d c s (record { at = c.at; full = true }) d
-add_no d c s e = record { cursor = rw e; buffer = rw e }
 
 -- a promise kept for a piece is kept for one that is equal
 pub add_of : (d : List ℕ) (c : Cursor) (s t : List ℕ) (r : Cursor) (x : List ℕ) → s ≡ t → AddPromise d c s r x → AddPromise d c t r x
 add_of d c s t r x e p = rw e at p
 
-pub length-hex : (l : List ℕ) → length (hex l) ≡ 2 * length l
-length-hex [] = refl
-length-hex (b ∷ l) = omega (arith, length-hex l)
-
-abbrev whole : ℕ → Cursor
-whole k = record { at = k; full = false }
-
--- bytes that went in as hex, counted by two
-pub hex_yes : (d : List ℕ) (c : Cursor) (s x : List ℕ) → takes c (length d) (2 * length s) ≡ true → x ≡ pasted d c.at (hex s)
-    → AddPromise d c (hex s) (record { at = c.at + 2 * length s; full = false }) x
-hex_yes d c s x e f =
-    let p = add_yes d c (hex s) x (ap (takes c (length d)) (length-hex s) ∙ e) f in
-    let g : c.at + length (hex s) ≡ c.at + 2 * length s = omega (arith, length-hex s) in
-    record { cursor = ap (λ (k : ℕ). whole k) (sym g) ∙ p.cursor; buffer = p.buffer }
-
-pub hex_no : (d : List ℕ) (c : Cursor) (s : List ℕ) → takes c (length d) (2 * length s) ≡ false
-    → AddPromise d c (hex s) (record { at = c.at; full = true }) d
-hex_no d c s e = add_no d c (hex s) (ap (takes c (length d)) (length-hex s) ∙ e)
+pub length_hex : (l : List ℕ) → length (hex l) ≡ 2 * length l
+length_hex [] = refl
+length_hex (b ∷ l) = omega (arith, length_hex l)
 
 hex-snoc : (l : List ℕ) (b : ℕ) → hex (l ++ (b ∷ [])) ≡ (hex l ++ (digit (b / 16) ∷ [])) ++ (digit (b % 16) ∷ [])
 hex-snoc [] b = refl
@@ -92,7 +32,7 @@ pub hex_turn : (x d s : List ℕ) (a i p q : ℕ) → x ≡ pasted d a (hex (tak
 hex_turn x d s a i p q e h k f g =
     let b : ℕ = get_or s i 0 in
     let y : List ℕ = hex (take i s) in
-    let m : length y ≡ 2 * i = omega (arith, length-hex (take i s), length-take-le i s (omega arith)) in
+    let m : length y ≡ 2 * i = omega (arith, length_hex (take i s), length-take-le i s (omega arith)) in
     let n : length (y ++ (digit (b / 16) ∷ [])) ≡ 2 * i + 1 = omega (arith, length-append y (digit (b / 16) ∷ [])) in
     let o : a + 2 * i + 1 ≡ a + (2 * i + 1) = omega arith in
     ap₂ (λ (u v : ℕ). set (set x (a + 2 * i) u) (a + 2 * i + 1) v) f g

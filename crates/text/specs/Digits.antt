@@ -1,5 +1,6 @@
 -- Numbers and bytes as text (docs/RULES.md, 9.1 to 9.3): the digits are `0` to `9` and, for ten to fifteen, `a` to `f`.
-use Rattle.std.specs.Prelude.{ℕ, zero, suc, ◌+◌, ◌-◌, ◌*◌, ◌/◌, ◌%◌, Bool, true, ◌&&◌, cond, List, [], ◌∷◌, ◌++◌, leb, ltb}
+use Rattle.std.specs.Prelude.{ℕ, zero, suc, ◌+◌, ◌-◌, ◌*◌, ◌/◌, ◌%◌, Bool, ◌&&◌, cond, List, [], ◌∷◌, ◌++◌, leb, ltb}
+use Rattle.std.specs.List.{list_all}
 
 -- the character of a digit below 16
 unfoldable pub digit : ℕ → ℕ
@@ -35,8 +36,7 @@ hex8 n = spelled 16 8 n
 
 -- whether each character is a digit of the base b, which is at most 16
 abbrev pub digits : ℕ → List ℕ → Bool
-digits b [] = true
-digits b (c ∷ s) = ltb (worth c) b && digits b s
+digits b s = list_all (λ c. ltb (worth c) b) s
 
 -- the number that digits in the base b say after a number v
 abbrev pub value : ℕ → ℕ → List ℕ → ℕ

@@ -58,6 +58,7 @@ fn write_line(out: &mut [u8], t: Result<Packet, Refusal>) -> usize
 
 // Adds the line of what is told: a packet's numbers, or a refusal. The newline that ends the line goes with it. The line is
 // made beside first, since all of it goes in or nothing.
+#[tactic(auto, using(crate::proofs::Writing::add_of, octets::proofs::Place::begun_take))]
 pub fn packet_line(out: &mut [u8], c: Cursor, t: Result<Packet, Refusal>) -> Cursor
     ensures { AddPromise out.old c (line_of t) result out.new }
 {

@@ -13,6 +13,7 @@ pub enum UnhexError {
 
 // The digit that a character is, 16 where it is none.
 // No Option: 16 is no digit in any base up to 16, so one test against the base refuses both kinds of character.
+#[tactic(auto, unfolding(crate::specs::Digits::worth))]
 fn read_digit(c: u8) -> u8
     ensures { result ≡ worth c }
 {
@@ -24,6 +25,7 @@ fn read_digit(c: u8) -> u8
 }
 
 // A number in a base from 2 to 16 that is at most `most`.
+#[tactic(auto, using(crate::proofs::Reading::number_none, crate::proofs::Reading::number_some, crate::proofs::Reading::stop_none, crate::proofs::Reading::stop_over, crate::proofs::Reading::go_on, crate::proofs::Reading::at_end))]
 fn read_number(s: &[u8], base: u8, most: u64) -> Option<u64>
     requires { (0 < base) × (base ≤ 16) }
     ensures { result ≡ number_in base most s.now }
@@ -54,6 +56,7 @@ pub fn undecimal(s: &[u8], most: u64) -> Option<u64>
 }
 
 // Eight hex digits as a number.
+#[tactic(auto, using(crate::proofs::Reading::word_value, crate::proofs::Reading::word_bad, crate::proofs::Reading::word_not, crate::proofs::Reading::number_most))]
 pub fn unhex8(s: &[u8]) -> Option<u32>
     ensures { result ≡ word_in s.now }
 {
@@ -80,6 +83,7 @@ fn join_digits(h: u8, l: u8) -> u8
 }
 
 // Puts the bytes where they are known to fit.
+#[tactic(auto, using(crate::proofs::Reading::pair_turn, crate::proofs::Reading::digits_at, crate::proofs::Reading::length_pairs, octets::proofs::Place::pasted_none))]
 fn put_bytes(out: &mut [u8], at: usize, s: &[u8])
     requires room { at + length (pairs s.now) ≤ length out.old }
     requires s_even { length s.now % 2 ≡ 0 }
@@ -92,6 +96,7 @@ fn put_bytes(out: &mut [u8], at: usize, s: &[u8])
 }
 
 // Reads bytes in hex into `out` at `at`, where all of them fit, and tells how many there are; else nothing changes.
+#[tactic(auto, using(crate::proofs::Reading::length_pairs), unfolding(crate::specs::Promise::hexed, octets::specs::Place::placed))]
 pub fn unhex(out: &mut [u8], at: usize, s: &[u8]) -> Result<usize, UnhexError>
     ensures { UnhexPromise out.old at s.now result out.new }
 {

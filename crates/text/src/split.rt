@@ -16,6 +16,7 @@ pub fn field_end(line: &[u8], from: usize, separator: u8) -> usize
 }
 
 // How many fields the line has: one more than separators.
+#[tactic(auto, using(crate::proofs::Cuts::length_cut))]
 pub fn fields(line: &[u8], separator: u8) -> usize
     ensures { result ≡ length (cut separator line.now) }
 {

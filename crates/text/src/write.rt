@@ -13,6 +13,7 @@ pub struct Cursor {
 }
 
 // Whether n bytes more go into a buffer of m.
+#[tactic(auto, unfolding(crate::specs::Promise::takes))]
 fn has_room(c: Cursor, m: usize, n: usize) -> bool
     ensures { result ≡ takes c m n }
 {
@@ -28,6 +29,7 @@ fn has_room(c: Cursor, m: usize, n: usize) -> bool
 // Adds bytes as they are.
 // No method: the buffer stays with its owner between two calls, so a call names both either way, and `c.add(out, s)` is no
 // plainer than `add(out, c, s)`.
+#[tactic(auto, unfolding(crate::specs::Promise::takes, octets::specs::Place::placed))]
 pub fn add(out: &mut [u8], c: Cursor, s: &[u8]) -> Cursor
     ensures { AddPromise out.old c s.now result out.new }
 {
@@ -43,6 +45,7 @@ pub fn add(out: &mut [u8], c: Cursor, s: &[u8]) -> Cursor
 }
 
 // The character of a digit below 16.
+#[tactic(auto, unfolding(crate::specs::Digits::digit))]
 fn spell_digit(d: u8) -> u8
     requires { d < 16 }
     ensures { result ≡ digit d }
@@ -78,6 +81,7 @@ pub fn decimal(out: &mut [u8], c: Cursor, n: u64) -> Cursor
 }
 
 // Puts bytes in hex where they are known to fit.
+#[tactic(auto, using(crate::proofs::Writing::hex_turn, octets::proofs::Place::pasted_none))]
 fn put_hex(out: &mut [u8], at: usize, s: &[u8])
     requires { at + 2 * length s.now ≤ length out.old }
     ensures { out.new ≡ pasted out.old at (hex s.now) }
@@ -89,6 +93,7 @@ fn put_hex(out: &mut [u8], at: usize, s: &[u8])
 }
 
 // Adds bytes in hex, two digits each.
+#[tactic(auto, using(crate::proofs::Writing::length_hex), unfolding(crate::specs::Promise::takes))]
 pub fn hex(out: &mut [u8], c: Cursor, s: &[u8]) -> Cursor
     ensures { AddPromise out.old c (hex s.now) result out.new }
 {
@@ -112,6 +117,7 @@ fn spell_last(n: u32) -> u8
 }
 
 // Adds a number as eight hex digits.
+#[tactic(auto, using(crate::proofs::Writing::add_of, crate::proofs::Writing::eight))]
 pub fn hex8(out: &mut [u8], c: Cursor, n: u32) -> Cursor
     ensures { AddPromise out.old c (hex8 n) result out.new }
 {

@@ -1,23 +1,17 @@
--- `say_refusal` keeps its promise: the pieces of the number, and those of the byte behind them.
-use mathlib.Core.List.{[], ◌∷◌}
-use mathlib.Core.Path.{◌∙◌}
+-- `say_refusal` keeps its promise: the byte that is carried is said behind the number.
+use mathlib.Core.Path.{◌≡◌, sym, ◌∙◌}
+use Rattle.std.proofs.Common.{rules}
+use mathlib.Core.Bool.{true}
+use Rattle.std.specs.Prelude.{Some}
+use Rattle.refusal.specs.Table.{carries_of, value_of}
 use Rattle.refusal.proofs.Told.{carried}
-use Rattle.text.specs.Digits.{decimal}
-use Rattle.text.specs.Line.{refused_word}
-use Rattle.cases.specs.Answer.{space}
-use Rattle.cases.proofs.Saying.{say_more, say_of, refused_plain, refused_with}
+use Rattle.cases.specs.Answer.{refusal_pieces}
 use Rattle.cases.proofs.answer.say_refusal.Goals as goal
 
-pub returns-in-None : goal.returns-in-None
-returns-in-None c =
-    let none = carried c.args.r _ c.in-None.ensures in
-    say_of _ _ _ _ _ _ (refused_plain c.args.r _ (c.from.ensures ∙ c.number.ensures) none) c.say_number-c.ensures
-
 pub returns-in-Some : goal.returns-in-Some
+unfolding refusal_pieces
 returns-in-Some c =
-    let r = c.args.r in
-    let some = carried r _ c.in-Some.ensures in
-    let one = refused_word ∷ decimal c.from.result ∷ [] in
-    let two = space ∷ decimal c.from-in-Some.result ∷ [] in
-    let s = say_more _ _ one two _ _ _ _ c.say_number-c.ensures c.say_number.ensures in
-    say_of _ _ _ _ _ _ (refused_with r _ (c.from.ensures ∙ c.number.ensures) _ (c.from-in-Some.ensures ∙ some.1) some.0) s
+    let e = carried c.args.r (Some c.in-Some.v) (sym c.in-Some.is ∙ c.value.ensures) in
+    let f : carries_of c.args.r ≡ true = e.0 in
+    let g : value_of c.args.r ≡ c.in-Some.v = sym e.1 in
+    rw (f, g) (search rules)

@@ -1,19 +1,6 @@
 -- `gather` keeps its promise: the line ends in what is left of the piece, or goes on.
-use native.Mathlib.Omega.{arith}
-use Rattle.cases.proofs.Gathering.{gather_room, gather_end, gather_on}
+use Rattle.cases.proofs.Gathering.{gather_end, gather_on}
 use Rattle.cases.proofs.input.gather.Goals as goal
-
-pub overflow_add-result : goal.overflow_add-result
-overflow_add-result c =
-    let a = c.args in
-    let e = c.pick_part-left.ensures.0 in
-    omega (arith, gather_room a.piece.now _ a.s.from a.s.to _ e c.if-n-left.true)
-
-pub overflow_add-result-then-n-left : goal.overflow_add-result-then-n-left
-overflow_add-result-then-n-left c =
-    let a = c.args in
-    let e = c.pick_part-left.ensures.0 in
-    omega (arith, gather_room a.piece.now _ a.s.from a.s.to _ e c.if-n-left.true)
 
 pub returns-then-n-left : goal.returns-then-n-left
 returns-then-n-left c =

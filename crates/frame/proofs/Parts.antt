@@ -15,7 +15,7 @@ use Rattle.reader.specs.declared.Read.{Read}
 use Rattle.frame.specs.Answers.{ReadPromise}
 
 -- an answer that is no refusal is one that accepts
-accepts_told : (a : Result Accepted Refusal) → accepts (read_told a) ≡ is_ok a
+pub accepts_told : (a : Result Accepted Refusal) → accepts (read_told a) ≡ is_ok a
 accepts_told (Ok a) = refl
 accepts_told (Err r) = refl
 

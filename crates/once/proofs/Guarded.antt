@@ -1,7 +1,7 @@
 -- Laws of the guard: what it does to an answer, to what is told of it and to a buffer.
 use Prim.Native.Nat.{ℕ}
-use mathlib.Core.Path.{◌≡◌, refl, sym, ◌∙◌, ap}
-use Rattle.refusal.specs.Order.{Res, refuse, accept}
+use mathlib.Core.Path.{◌≡◌, refl, ◌∙◌, ap}
+use Rattle.refusal.specs.Order.{Res, refuse, accept, and_then}
 use Rattle.refusal.proofs.Order.{then_accept, then_refuse}
 use Rattle.framing.specs.Packet.{Message}
 use Rattle.framing.specs.Told.{shown}
@@ -49,23 +49,15 @@ module _ {A : Type 0} (number : A → ℕ) (a : Arrivals) where
 
 -- what is told of a message has its number, so the guard may come before the telling or behind it
 pub guard-shown : (a : Arrivals) (R : Res Message) → guard (λ x. x.seq) a (shown R) ≡ shown (guard (λ M. M.seq) a R)
-unfolding shown
-guard-shown a R = by (cases (λ M. M.seq) a R)
+unfolding guard shown and_then
+guard-shown a (refuse n v) = refl
+guard-shown a (accept M) = by (take_of a M.seq)
   where
-    by : Cases (λ M. M.seq) a R → guard (λ x. x.seq) a (shown R) ≡ shown (guard (λ M. M.seq) a R)
-    by (by_reading n v e) =
-        (guard_refuse (λ x. x.seq) a (shown R) n v (then_refuse R _ n v e)).0 ∙ sym (then_refuse _ _ n v (guard_refuse (λ M. M.seq) a R n v e).0)
-    by (by_number M n v e f) =
-        (guard_number (λ x. x.seq) a (shown R) _ n v (then_accept R _ M e) f).0 ∙ sym (then_refuse _ _ n v (guard_number (λ M. M.seq) a R M n v e f).0)
-    by (taken M b e f) =
-        (guard_taken (λ x. x.seq) a (shown R) _ b (then_accept R _ M e) f).0 ∙ sym (then_accept _ _ M (guard_taken (λ M. M.seq) a R M b e f).0)
+    by : (T : Res Arrivals) → and_then T (λ _. shown (accept M)) ≡ shown (and_then T (λ _. accept M))
+    by (refuse n v) = refl
+    by (accept b) = refl
 
 pub record_shown : (a : Arrivals) (R : Res Message) → record_after (λ x. x.seq) a (shown R) ≡ record_after (λ M. M.seq) a R
-unfolding shown
-record_shown a R = by (cases (λ M. M.seq) a R)
-  where
-    by : Cases (λ M. M.seq) a R → record_after (λ x. x.seq) a (shown R) ≡ record_after (λ M. M.seq) a R
-    by (by_reading n v e) = (guard_refuse (λ x. x.seq) a (shown R) n v (then_refuse R _ n v e)).1 ∙ sym (guard_refuse (λ M. M.seq) a R n v e).1
-    by (by_number M n v e f) =
-        (guard_number (λ x. x.seq) a (shown R) _ n v (then_accept R _ M e) f).1 ∙ sym (guard_number (λ M. M.seq) a R M n v e f).1
-    by (taken M b e f) = (guard_taken (λ x. x.seq) a (shown R) _ b (then_accept R _ M e) f).1 ∙ sym (guard_taken (λ M. M.seq) a R M b e f).1
+unfolding record_after shown and_then
+record_shown a (refuse n v) = refl
+record_shown a (accept M) = refl

@@ -3,14 +3,15 @@ use Prim.Native.Nat.{ℕ}
 use mathlib.Core.Bool.{true, false}
 use mathlib.Core.List.{List, [], ◌∷◌}
 use mathlib.Core.Path.{◌≡◌, refl, sym, ◌∙◌, ap}
+use Rattle.std.specs.Prelude.{Result, Ok, Err}
+use Rattle.refusal.specs.declared.Refusal.{Refusal}
 use Rattle.refusal.specs.Order.{Res, refuse, accept}
 use Rattle.refusal.specs.Table.{among, unrepeated}
 use Rattle.refusal.proofs.Order.{then_refuse, then_accept}
 use Rattle.framing.specs.Packet.{Message}
 use Rattle.framing.specs.Told.{Shown, shown}
 use Rattle.reader.specs.Answers.{read_told}
-use Rattle.reader.specs.declared.Reading.{Reading}
-use Rattle.reader.specs.declared.Reading.TheVariants.{Accepted, Refused}
+use Rattle.reader.specs.declared.Accepted.{Accepted}
 use Rattle.arrivals.specs.Marks.{count_of}
 use Rattle.arrivals.specs.Take.{kept_by}
 use Rattle.arrivals.specs.Many.{Barred, after_all, with_taken, taken_of, highest_of, last_of}
@@ -48,9 +49,9 @@ abbrev number_told : Res Shown → List ℕ → List ℕ
 number_told (refuse n v) ns = ns
 number_told (accept x) ns = x.seq ∷ ns
 
-told_number : (x : Reading) (ns : List ℕ) → with_number x ns ≡ number_told (read_told x) ns
-told_number (Accepted t i q n) ns = refl
-told_number (Refused w) ns = refl
+told_number : (x : Result Accepted Refusal) (ns : List ℕ) → with_number x ns ≡ number_told (read_told x) ns
+told_number (Ok m) ns = refl
+told_number (Err w) ns = refl
 
 -- what one call does, by what reading finds
 record Found (a : Arrivals) (o : OnceSeen) : Type 0 where

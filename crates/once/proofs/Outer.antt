@@ -4,6 +4,7 @@ use native.Mathlib.Omega.{arith}
 use mathlib.Core.List.{List, [], ◌++◌, append-nil}
 use mathlib.Core.Path.{◌≡◌, refl, sym, ◌∙◌, ap}
 use lib.ListN.{length, take, drop, length-drop, take-append-drop, drop_of_length-le}
+use Rattle.std.specs.Prelude.{Err}
 use Rattle.refusal.specs.Order.{Res, refuse, accept}
 use Rattle.refusal.specs.Table.{number_of, value_of}
 use Rattle.refusal.specs.declared.Refusal.{Refusal}
@@ -15,7 +16,6 @@ use Rattle.framing.specs.Read.{read_of, left_by, left_of, blocks_of}
 use Rattle.framing.specs.Told.{shown}
 use Rattle.framing.specs.Outer.{outer_of, read_datagram_of, left_datagram, blocks_datagram}
 use Rattle.framing.proofs.InPlace.{outer_no, outer_on}
-use Rattle.reader.specs.declared.Reading.TheVariants as reading
 use Rattle.arrivals.specs.declared.Arrivals.{Arrivals}
 use Rattle.once.specs.Guard.{guard, record_after}
 use Rattle.once.specs.Promise.{OncePromise}
@@ -25,7 +25,7 @@ use Rattle.once.proofs.Guarded.{guard_refuse}
 module _ (S : Suite) (d : List ℕ) (x : Res (Unit {0})) (e : x ≡ outer_of d) (a : Arrivals) where
   pub outer_refused : (w : Refusal) → x ≡ refuse (number_of w) (value_of w)
       → OncePromise a (read_datagram_of S d) (blocks_datagram S d) (left_datagram S d) d
-      (record { read = record { answer = reading.Refused w; blocks = 0 }; arrivals = a }) d
+      (record { read = record { answer = Err w; blocks = 0 }; arrivals = a }) d
   unfolding read_datagram_of shown
   outer_refused w f =
       let g = guard_refuse (λ M. M.seq) a (read_datagram_of S d) _ _ (then_refuse (outer_of d) _ _ _ (sym e ∙ f)) in

@@ -4,53 +4,21 @@ use mathlib.Core.Bool.{true, false, cond, false≢true, true≢false}
 use mathlib.Core.List.{List}
 use mathlib.Core.Path.{◌≡◌, refl, sym, ◌∙◌, ap}
 use Rattle.refusal.specs.Order.{Res, refuse, accept}
-use Rattle.refusal.specs.Outcome.{told}
-use Rattle.refusal.specs.Table.{number_of, value_of}
-use Rattle.refusal.specs.declared.Refusal.{Refusal}
-use Rattle.refusal.specs.declared.Outcome.TheVariants.{Done, Refused}
-use Rattle.refusal.proofs.Order.{done_yes, done_no, then_refuse, then_accept}
+use Rattle.std.specs.Result.{is_ok}
+use Rattle.refusal.proofs.Order.{then_refuse, then_accept}
 use Rattle.framing.specs.Suite.{Suite}
 use Rattle.framing.specs.Packet.{Message}
 use Rattle.framing.specs.Read.{read_of, openable, opened, left_by, left_of, accepts, blocks_of}
 use Rattle.framing.specs.Told.{shown}
 use Rattle.framing.proofs.InPlace.{left_opened}
-use Rattle.suite.specs.declared.PayloadType.{PayloadType}
 use Rattle.reader.specs.Answers.{read_told, Tells}
 use Rattle.reader.specs.declared.Read.{Read}
-use Rattle.reader.specs.declared.Reading.TheVariants as reading
-use Rattle.arrivals.specs.Take.{take_of, kept_by}
-use Rattle.arrivals.specs.Promise.{TakePromise}
+use Rattle.frame.proofs.Parts.{accepts_told}
 use Rattle.arrivals.specs.declared.Arrivals.{Arrivals}
-use Rattle.arrivals.specs.declared.Taken.{Taken}
 use Rattle.once.specs.Guard.{guard, record_after}
 use Rattle.once.specs.Promise.{NumberPromise, OncePromise}
 use Rattle.once.specs.declared.ReadOnce.{ReadOnce}
 use Rattle.once.proofs.Guarded.{guard_refuse, guard_number, guard_taken, Cases, by_reading, by_number, taken, cases, guard-shown, record_shown}
-
--- the number: not looked at, taken, refused
-module _ (a : Arrivals) (r : Read) where
-  pub number_none : (w : Refusal) → r.answer ≡ reading.Refused w → NumberPromise a r (record { read = r; arrivals = a })
-  number_none w e =
-      let g = guard_refuse (λ x. x.seq) a (read_told r.answer) (number_of w) (value_of w) (ap read_told e) in
-      record { answer = ap read_told e ∙ sym g.0; count = refl; record_left = sym g.1 }
-
-  module _ (t : PayloadType) (i q n : ℕ) (e : r.answer ≡ reading.Accepted t i q n) (k : Taken) (p : TakePromise a q k) where
-    pub number_taken : k.outcome ≡ Done → NumberPromise a r (record { read = r; arrivals = k.arrivals })
-    number_taken f =
-        let b = done_yes (take_of a q) (sym p.outcome ∙ ap told f) in
-        let g = guard_taken (λ x. x.seq) a (read_told r.answer) _ b.0 (ap read_told e) b.1 in
-        record {
-          answer = ap read_told e ∙ sym g.0;
-          count = refl;
-          record_left = p.record_left ∙ ap (λ (x : Res Arrivals). kept_by x a) b.1 ∙ sym g.1;
-        }
-
-    pub number_refused : (w : Refusal) → k.outcome ≡ Refused w
-        → NumberPromise a r (record { read = record { answer = reading.Refused w; blocks = r.blocks }; arrivals = a })
-    number_refused w f =
-        let z = done_no (take_of a q) (number_of w) (value_of w) (sym p.outcome ∙ ap told f) in
-        let g = guard_number (λ x. x.seq) a (read_told r.answer) _ (number_of w) (value_of w) (ap read_told e) z in
-        record { answer = sym g.0; count = refl; record_left = sym g.1 }
 
 -- what was told shows whether it was accepted
 module _ (a : Arrivals) (R : Res Message) where
@@ -92,18 +60,18 @@ module _ (S : Suite) (l : List ℕ) (r : Read) (t : Tells (read_of S l) (blocks_
   kept_once : o.arrivals ≡ record_after (λ M. M.seq) a (read_of S l)
   kept_once = p.record_left ∙ ap (record_after (λ x. x.seq) a) t.answer ∙ record_shown a (read_of S l)
 
-  pub once_opened : accepts (read_told o.read.answer) ≡ true → (x : List ℕ) → x ≡ cond (openable l) (opened S l) l
+  pub once_opened : is_ok o.read.answer ≡ true → (x : List ℕ) → x ≡ cond (openable l) (opened S l) l
       → OncePromise a (read_of S l) (blocks_of S l) (left_of S l) l o x
   once_opened h x e =
-      let w = accepted_left a (read_of S l) (sym (ap accepts told_once) ∙ h) l (left_of S l) in
+      let w = accepted_left a (read_of S l) (sym (ap accepts told_once) ∙ accepts_told o.read.answer ∙ h) l (left_of S l) in
       record {
         read = record { tells = tells_once; buffer = e ∙ left_opened S l (shown (read_of S l)) refl w.0 ∙ sym w.1 };
         record_left = kept_once;
       }
 
-  pub once_refused : accepts (read_told o.read.answer) ≡ false → OncePromise a (read_of S l) (blocks_of S l) (left_of S l) l o l
+  pub once_refused : is_ok o.read.answer ≡ false → OncePromise a (read_of S l) (blocks_of S l) (left_of S l) l o l
   once_refused h =
       record {
-        read = record { tells = tells_once; buffer = sym (refused_left a (read_of S l) (sym (ap accepts told_once) ∙ h) l (left_of S l)) };
+        read = record { tells = tells_once; buffer = sym (refused_left a (read_of S l) (sym (ap accepts told_once) ∙ accepts_told o.read.answer ∙ h) l (left_of S l)) };
         record_left = kept_once;
       }

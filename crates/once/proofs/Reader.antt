@@ -5,6 +5,7 @@ use mathlib.Core.List.{List}
 use mathlib.Core.Logic.{inl, inr, ⊎_elim, ◌↔◌}
 use mathlib.Core.Path.{◌≡◌, refl, sym, ◌∙◌, ap, ap₂, subst}
 use lib.ListN.{length}
+use Rattle.std.specs.Prelude.{Result, Ok, Err}
 use Rattle.refusal.specs.Order.{Res, refuse, accept}
 use Rattle.refusal.specs.Table.{number_of, value_of}
 use Rattle.refusal.specs.declared.Refusal.{Refusal}
@@ -14,11 +15,9 @@ use Rattle.framing.specs.Read.{left_by}
 use Rattle.framing.specs.Told.{Shown, shown}
 use Rattle.framing.specs.Frames.{Only}
 use Rattle.framing.proofs.Exactly.{refuses_none, accepts_only}
-use Rattle.suite.specs.declared.PayloadType.{PayloadType}
 use Rattle.reader.specs.Answers.{read_told, Tells}
+use Rattle.reader.specs.declared.Accepted.{Accepted}
 use Rattle.reader.specs.declared.Read.{Read}
-use Rattle.reader.specs.declared.Reading.{Reading}
-use Rattle.reader.specs.declared.Reading.TheVariants.{Accepted, Refused}
 use Rattle.reader.proofs.Only.{reading_one, tells_one}
 use Rattle.frame.specs.Answers.{ReadPromise}
 use Rattle.frame.specs.Exact.{message_told}
@@ -33,8 +32,8 @@ use Rattle.once.specs.declared.ReadOnce.{ReadOnce}
 use Rattle.once.proofs.Guarded.{guard_refuse, guard_number, guard_taken, Cases, by_reading, by_number, taken, cases}
 
 -- what stands behind an answer that refuses, and behind one that accepts
-module _ (R : Res Message) (answer : Reading) (told : read_told answer ≡ shown R) where
-  refused_found : (w : Refusal) → answer ≡ Refused w → R ≡ refuse (number_of w) (value_of w)
+module _ (R : Res Message) (answer : Result Accepted Refusal) (told : read_told answer ≡ shown R) where
+  refused_found : (w : Refusal) → answer ≡ Err w → R ≡ refuse (number_of w) (value_of w)
   unfolding shown
   refused_found w e = by R refl
     where
@@ -42,17 +41,17 @@ module _ (R : Res Message) (answer : Reading) (told : read_told answer ≡ shown
       by (refuse n v) f = f ∙ refuse_as n v _ _ (sym (then_refuse R _ n v f) ∙ sym told ∙ ap read_told e)
       by (accept M) f = absurd (refuse≢accept _ _ _ (sym (ap read_told e) ∙ told ∙ then_accept R _ M f))
 
-  found_refused : (n v : ℕ) → R ≡ refuse n v → (w : Refusal) × (answer ≡ Refused w) × (number_of w ≡ n)
+  found_refused : (n v : ℕ) → R ≡ refuse n v → (w : Refusal) × (answer ≡ Err w) × (number_of w ≡ n)
   unfolding shown
   found_refused n v e = by answer refl
     where
-      by : (x : Reading) → answer ≡ x → (w : Refusal) × (answer ≡ Refused w) × (number_of w ≡ n)
-      by (Refused w) f = (w, f, (let g = sym (ap read_told f) ∙ told ∙ then_refuse R _ n v e in cc))
-      by (Accepted t i q k) f = absurd (refuse≢accept _ _ _ (sym (then_refuse R _ n v e) ∙ sym told ∙ ap read_told f))
+      by : (x : Result Accepted Refusal) → answer ≡ x → (w : Refusal) × (answer ≡ Err w) × (number_of w ≡ n)
+      by (Err w) f = (w, f, (let g = sym (ap read_told f) ∙ told ∙ then_refuse R _ n v e in cc))
+      by (Ok m) f = absurd (refuse≢accept _ _ _ (sym (then_refuse R _ n v e) ∙ sym told ∙ ap read_told f))
 
-  accepted_found : (t : PayloadType) (i q n : ℕ) → answer ≡ Accepted t i q n → (M : Message) × (R ≡ accept M) × (M.seq ≡ q)
+  accepted_found : (m : Accepted) → answer ≡ Ok m → (M : Message) × (R ≡ accept M) × (M.seq ≡ m.session_sequence_number)
   unfolding shown
-  accepted_found t i q n e =
+  accepted_found m e =
       let f = then_inv R _ _ (sym told ∙ ap read_told e) in
       (f.0, f.1, ap (λ (x : Shown). x.seq) (accept_inj _ _ f.2))
 
@@ -84,23 +83,24 @@ module _ (a : Arrivals) (R : Res Message) (blocks : ℕ) (left lent : List ℕ) 
     left_as : (y : Res Message) → G ≡ y → s.left ≡ left_by y lent left
     left_as y e = q.read.buffer ∙ ap (λ (z : Res Message). left_by z lent left) e
 
-    refused_by : (w : Refusal) → G ≡ refuse (number_of w) (value_of w) → s.answer.read ≡ record { answer = Refused w; blocks = r.blocks }
+    refused_by : (w : Refusal) → G ≡ refuse (number_of w) (value_of w) → s.answer.read ≡ record { answer = Err w; blocks = r.blocks }
     unfolding shown
     refused_by w e =
-        let f : s.answer.read.answer ≡ Refused w = reading_one _ _ (q.read.tells.answer ∙ then_refuse G _ _ _ e) in
+        let f : s.answer.read.answer ≡ Err w = reading_one _ _ (q.read.tells.answer ∙ then_refuse G _ _ _ e) in
         λ k. record { answer = f k; blocks = (q.read.tells.count ∙ sym p.tells.count) k }
 
     -- where the guarded reader accepts, so does the reader
-    as_read : (t : PayloadType) (i n len : ℕ) → s.answer.read.answer ≡ Accepted t i n len
-        → (s.answer.read ≡ r) × (s.left ≡ x) × (take_of s.arrivals n ≡ accept s.answer.arrivals)
-    as_read t i n len e = by (cases (λ M. M.seq) a R)
+    as_read : (k : Accepted) → s.answer.read.answer ≡ Ok k
+        → (s.answer.read ≡ r) × (s.left ≡ x) × (take_of s.arrivals k.session_sequence_number ≡ accept s.answer.arrivals)
+    as_read k e = by (cases (λ M. M.seq) a R)
       where
-        m : (M : Message) × (G ≡ accept M) × (M.seq ≡ n)
-        m = accepted_found G s.answer.read.answer q.read.tells.answer t i n len e
+        m : (M : Message) × (G ≡ accept M) × (M.seq ≡ k.session_sequence_number)
+        m = accepted_found G s.answer.read.answer q.read.tells.answer k e
 
-        by : Cases (λ M. M.seq) a R → (s.answer.read ≡ r) × (s.left ≡ x) × (take_of s.arrivals n ≡ accept s.answer.arrivals)
-        by (by_reading k v g) = absurd (refuse≢accept _ _ _ (sym (guard_refuse (λ M. M.seq) a R k v g).0 ∙ m.1))
-        by (by_number M k v g h) = absurd (refuse≢accept _ _ _ (sym (guard_number (λ M. M.seq) a R M k v g h).0 ∙ m.1))
+        by : Cases (λ M. M.seq) a R
+            → (s.answer.read ≡ r) × (s.left ≡ x) × (take_of s.arrivals k.session_sequence_number ≡ accept s.answer.arrivals)
+        by (by_reading n v g) = absurd (refuse≢accept _ _ _ (sym (guard_refuse (λ M. M.seq) a R n v g).0 ∙ m.1))
+        by (by_number M n v g h) = absurd (refuse≢accept _ _ _ (sym (guard_number (λ M. M.seq) a R M n v g h).0 ∙ m.1))
         by (taken M b g h) =
             let f = guard_taken (λ M. M.seq) a R M b g h in
             let one : M ≡ m.0 = accept_inj _ _ (sym f.0 ∙ m.1) in (
@@ -121,13 +121,13 @@ module _ (a : Arrivals) (R : Res Message) (blocks : ℕ) (left lent : List ℕ) 
                 q.record_left ∙ g.1 ∙ sym given,
               );
           taken =
-              λ t i n len b e h.
-              let m = accepted_found R r.answer p.tells.answer t i n len e in
+              λ k b e h.
+              let m = accepted_found R r.answer p.tells.answer k e in
               let g = guard_taken (λ M. M.seq) a R m.0 b m.1 (ap₂ take_of (sym given) m.2 ∙ h) in
               (alike (g.0 ∙ sym m.1), left_as _ g.0 ∙ sym p.buffer, q.record_left ∙ g.1);
           not_taken =
-              λ t i n len w e h.
-              let m = accepted_found R r.answer p.tells.answer t i n len e in
+              λ k w e h.
+              let m = accepted_found R r.answer p.tells.answer k e in
               let g = guard_number (λ M. M.seq) a R m.0 _ _ m.1 (ap₂ take_of (sym given) m.2 ∙ h) in (
                 refused_by w g.0,
                 left_as _ g.0 ∙ sym bytes,
@@ -139,7 +139,7 @@ module _ (a : Arrivals) (R : Res Message) (blocks : ℕ) (left lent : List ℕ) 
   -- reading once is exact, where reading accepts with a message exactly when the bytes carry it, and has no refusal by 38 or 39
   module _ (Of : Message → Type 0) (exactly : (M : Message) → (R ≡ accept M) ↔ Of M) (below : (n v : ℕ) → R ≡ refuse n v → n < 38)
       (o : ReadOnce) (x : List ℕ) (q : OncePromise a R blocks left lent o x) where
-    abbrev answer : Reading
+    abbrev answer : Result Accepted Refusal
     answer = o.read.answer
 
     not_below : (w : Refusal) → number_of w < 38 → ByNumber w → ⊥
@@ -147,7 +147,7 @@ module _ (a : Arrivals) (R : Res Message) (blocks : ℕ) (left lent : List ℕ) 
     not_below w l (inr e) = omega arith
 
     -- a refusal that is not the number's is reading's
-    by_reading_found : (w : Refusal) → answer ≡ Refused w → (ByNumber w → ⊥) → R ≡ refuse (number_of w) (value_of w)
+    by_reading_found : (w : Refusal) → answer ≡ Err w → (ByNumber w → ⊥) → R ≡ refuse (number_of w) (value_of w)
     by_reading_found w e n = by (cases (λ M. M.seq) a R)
       where
         f : G ≡ refuse (number_of w) (value_of w)
@@ -161,7 +161,7 @@ module _ (a : Arrivals) (R : Res Message) (blocks : ℕ) (left lent : List ℕ) 
         by (taken M b g h) = absurd (refuse≢accept _ _ _ (sym f ∙ (guard_taken (λ M. M.seq) a R M b g h).0))
 
     -- and the number's is not reading's
-    by_number_found : (w : Refusal) → answer ≡ Refused w → ByNumber w
+    by_number_found : (w : Refusal) → answer ≡ Err w → ByNumber w
         → (M : Message) × Only Of M × (take_of a M.seq ≡ refuse (number_of w) (value_of w))
     by_number_found w e n = by (cases (λ M. M.seq) a R)
       where
@@ -173,33 +173,34 @@ module _ (a : Arrivals) (R : Res Message) (blocks : ℕ) (left lent : List ℕ) 
         by (by_number M m v g h) = (M, accepts_only Of R exactly M g, h ∙ refuse_as m v _ _ (sym (guard_number (λ M. M.seq) a R M m v g h).0 ∙ f))
         by (taken M b g h) = absurd (refuse≢accept _ _ _ (sym f ∙ (guard_taken (λ M. M.seq) a R M b g h).0))
 
-    number_answered : (w : Refusal) (M : Message) → R ≡ accept M → take_of a M.seq ≡ refuse (number_of w) (value_of w) → answer ≡ Refused w
+    number_answered : (w : Refusal) (M : Message) → R ≡ accept M → take_of a M.seq ≡ refuse (number_of w) (value_of w) → answer ≡ Err w
     unfolding shown
     number_answered w M e h = reading_one _ _ (q.read.tells.answer ∙ then_refuse G _ _ _ (guard_number (λ M. M.seq) a R M _ _ e h).0)
 
     module _ (Hands : ℕ → List ℕ → Type 0)
         (bytes : (M : Message) (y : List ℕ) → R ≡ accept M → x ≡ left → Hands (length M.payload) y → y ≡ M.payload) where
-      accepted_exact : (t : PayloadType) (i n len : ℕ) → answer ≡ Accepted t i n len
-          → (payload : List ℕ) × (length payload ≡ len) × Only Of (message_told t i n payload) × ((y : List ℕ) → Hands len y → y ≡ payload)
-          × ((b : Arrivals) × (take_of a n ≡ accept b))
-      accepted_exact t i n len e = by (cases (λ M. M.seq) a R)
+      abbrev Told : Accepted → Type 0
+      Told k =
+          (payload : List ℕ) × (length payload ≡ k.len) × Only Of (message_told k.ty k.session_id k.session_sequence_number payload)
+          × ((y : List ℕ) → Hands k.len y → y ≡ payload) × ((b : Arrivals) × (take_of a k.session_sequence_number ≡ accept b))
+
+      accepted_exact : (k : Accepted) → answer ≡ Ok k → Told k
+      accepted_exact k e = by (cases (λ M. M.seq) a R)
         where
           told : read_told answer ≡ shown G
           told = q.read.tells.answer
 
-          m : (M : Message) × (G ≡ accept M) × (M.seq ≡ n)
-          m = accepted_found G answer told t i n len e
+          m : (M : Message) × (G ≡ accept M) × (M.seq ≡ k.session_sequence_number)
+          m = accepted_found G answer told k e
 
-          by : Cases (λ M. M.seq) a R
-              → (payload : List ℕ) × (length payload ≡ len) × Only Of (message_told t i n payload) × ((y : List ℕ) → Hands len y → y ≡ payload)
-              × ((b : Arrivals) × (take_of a n ≡ accept b))
-          by (by_reading k v g) = absurd (refuse≢accept _ _ _ (sym (guard_refuse (λ M. M.seq) a R k v g).0 ∙ m.1))
-          by (by_number M k v g h) = absurd (refuse≢accept _ _ _ (sym (guard_number (λ M. M.seq) a R M k v g h).0 ∙ m.1))
+          by : Cases (λ M. M.seq) a R → Told k
+          by (by_reading n v g) = absurd (refuse≢accept _ _ _ (sym (guard_refuse (λ M. M.seq) a R n v g).0 ∙ m.1))
+          by (by_number M n v g h) = absurd (refuse≢accept _ _ _ (sym (guard_number (λ M. M.seq) a R M n v g h).0 ∙ m.1))
           by (taken M b g h) =
               let f = (guard_taken (λ M. M.seq) a R M b g h).0 in
               let opened : x ≡ left = q.read.buffer ∙ ap (λ (z : Res Message). left_by z lent left) f in
               let one : M ≡ m.0 = accept_inj _ _ (sym f ∙ m.1) in
-              let w = (exact R answer (told ∙ ap shown (f ∙ sym g)) Hands Of exactly (λ N y k z. bytes N y k opened z)).accepted t i n len e in
+              let w = (exact R answer (told ∙ ap shown (f ∙ sym g)) Hands Of exactly (λ N y n z. bytes N y n opened z)).accepted k.ty k.session_id k.session_sequence_number k.len e in
               (w.0, w.1, w.2, w.3, (b, ap (take_of a) (sym m.2 ∙ ap (λ (z : Message). z.seq) (sym one)) ∙ h))
 
       pub once_exact : OnceExact Of a answer Hands

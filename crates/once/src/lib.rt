@@ -8,8 +8,7 @@ ghost use Rattle.suite.specs.Session.{suite_of};
 ghost use Rattle.once.specs.Promise.{NumberPromise, OncePromise};
 
 use arrivals::Arrivals;
-use frame::{Read, Reading, SubState};
-use refusal::Outcome;
+use frame::{Read, SubState};
 
 // What was read, and the record of arrivals after it.
 #[derive(Clone, Copy)]
@@ -19,33 +18,24 @@ pub struct ReadOnce {
 }
 
 // The number of a packet that passed every check is taken, or refused.
+#[tactic(auto, unfolding(crate::specs::Guard::guard, crate::specs::Guard::record_after, refusal::specs::Order::and_then))]
 fn check_number(r: Read, arrivals: Arrivals) -> ReadOnce
     ensures { NumberPromise arrivals r result }
 {
-    let a = r.answer;
-    let Reading::Accepted {
-        ty: _,
-        session_id: _,
-        session_sequence_number,
-        len: _,
-    } = a
-    else {
-        return ReadOnce { read: r, arrivals };
-    };
-    let t = arrivals.take(session_sequence_number);
-    let o = t.outcome;
-    let after = t.arrivals;
-    match o {
-        Outcome::Done => ReadOnce {
-            read: r,
-            arrivals: after,
-        },
-        Outcome::Refused(why) => ReadOnce {
-            read: Read {
-                answer: Reading::Refused(why),
-                blocks: r.blocks,
+    match r.answer {
+        Err(_) => ReadOnce { read: r, arrivals },
+        Ok(a) => match arrivals.take(a.session_sequence_number) {
+            Ok(after) => ReadOnce {
+                read: r,
+                arrivals: after,
             },
-            arrivals,
+            Err(why) => ReadOnce {
+                read: Read {
+                    answer: Err(why),
+                    blocks: r.blocks,
+                },
+                arrivals,
+            },
         },
     }
 }
@@ -59,15 +49,7 @@ pub fn read_payload(s: SubState, arrivals: Arrivals, packet: &mut [u8]) -> ReadO
 {
     let r = frame::read_checked(s, packet);
     let o = check_number(r, arrivals);
-    let read = o.read;
-    let a = read.answer;
-    if let Reading::Accepted {
-        ty: _,
-        session_id: _,
-        session_sequence_number: _,
-        len: _,
-    } = a
-    {
+    if o.read.answer.is_ok() {
         frame::open_in_place(s, packet);
     }
     o
@@ -79,15 +61,14 @@ pub fn read_datagram(s: SubState, arrivals: Arrivals, datagram: &mut [u8]) -> Re
         (left_datagram (suite_of s) datagram.old) datagram.old result datagram.new }
     ensures bytes { Bytes datagram.old }
 {
-    let o = frame::check_outer(datagram);
-    match o {
-        Outcome::Refused(r) => ReadOnce {
+    match frame::check_outer(datagram) {
+        Err(why) => ReadOnce {
             read: Read {
-                answer: Reading::Refused(r),
+                answer: Err(why),
                 blocks: 0,
             },
             arrivals,
         },
-        Outcome::Done => read_payload(s, arrivals, &mut datagram[4..]),
+        Ok(()) => read_payload(s, arrivals, &mut datagram[4..]),
     }
 }

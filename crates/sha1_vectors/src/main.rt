@@ -3,17 +3,23 @@
 
 ghost use Rattle.std.specs.Prelude.{◌≤◌, length};
 
+use refusal::Refusal;
 use sha1_hmac::{Hashed, Sha1, Sha1Hmac};
 use std::io;
 use text::Cursor;
 
-// The digest in hex, a space, the blocks in decimal, a newline.
-fn tell(rt: &impl Print, h: Hashed) -> io::Result<()> {
-    let digest = h.digest;
-    let mut line = [0u8; 40];
-    text::hex(&mut line, Cursor { at: 0, full: false }, &digest);
-    rt.write_all(&line)?;
-    println!(rt; " {}", h.blocks)
+// The digest in hex, a space, the blocks in decimal, a newline; or the refusal's number.
+// sha1_million has the same lines: two programs share no crate but those that both are about, and none of these prints.
+fn tell(rt: &impl Print, answer: Result<Hashed, Refusal>) -> io::Result<()> {
+    match answer {
+        Ok(h) => {
+            let mut line = [0u8; 40];
+            text::hex(&mut line, Cursor { at: 0, full: false }, &h.digest);
+            rt.write_all(&line)?;
+            println!(rt; " {}", h.blocks)
+        }
+        Err(r) => println!(rt; "refused {}", r.number()),
+    }
 }
 
 // SHA-1 of s in one call.
@@ -29,33 +35,23 @@ fn tell_hmac(rt: &impl Print, key: &[u8], s: &[u8]) -> io::Result<()> {
 }
 
 // The same two from running values, the bytes in two pieces.
+fn hash_pieces(a: &[u8], b: &[u8]) -> Result<Hashed, Refusal> {
+    Sha1::new().update(a)?.update(b)?.finalize()
+}
+
+fn code_pieces(key: &[u8], a: &[u8], b: &[u8]) -> Result<Hashed, Refusal> {
+    Sha1Hmac::new(key)?.feed(a)?.feed(b)?.finalize()
+}
+
 fn tell_pieces(rt: &impl Print, key: &[u8], a: &[u8], b: &[u8]) -> io::Result<()> {
     print!(rt; "pieces {} {} ", a.len(), b.len())?;
-    let first = Sha1::new().update(a);
-    let hash = first.hash;
-    let second = hash.update(b);
-    let hash = second.hash;
-    tell(rt, hash.finalize())?;
-    let begun = Sha1Hmac::new(key);
-    let mac = begun.mac;
-    let first = mac.feed(a);
-    let mac = first.mac;
-    let second = mac.feed(b);
-    let mac = second.mac;
-    tell(rt, mac.finalize())
+    tell(rt, hash_pieces(a, b))?;
+    tell(rt, code_pieces(key, a, b))
 }
 
 // The byte at place i of the messages of the long list.
 fn message_byte(i: usize) -> u8 {
     ((i % 256 * 7 + i / 3 % 256) % 256) as u8
-}
-
-fn make_message() -> [u8; 200] {
-    let mut m = [0u8; 200];
-    for i in 0..200 {
-        m[i] = message_byte(i);
-    }
-    m
 }
 
 // The first n bytes: whole, under a key of half the length, and cut at a third.
@@ -68,7 +64,7 @@ fn tell_length(rt: &impl Print, m: &[u8], n: usize) -> io::Result<()>
 }
 
 fn tell_lengths(rt: &impl Print) -> io::Result<()> {
-    let m = make_message();
+    let m: [u8; 200] = std::array::from_fn(message_byte);
     for n in 0..=200 {
         tell_length(rt, &m, n)?;
     }

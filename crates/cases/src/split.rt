@@ -10,8 +10,8 @@ pub fn pick_part(s: &[u8], from: usize, to: usize) -> &[u8]
         × (result.ref_ptr.0 ≡ s.entry.ref_ptr.0)
         × (result.ref_ptr.1 ≡ s.entry.ref_ptr.1 + part_at s.now from to) }
 {
-    if from <= to {
-        if to <= s.len() { &s[from..to] } else { &s[..0] }
+    if from <= to && to <= s.len() {
+        &s[from..to]
     } else {
         &s[..0]
     }

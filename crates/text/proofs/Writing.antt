@@ -6,6 +6,7 @@ use mathlib.Core.List.{List, [], ◌∷◌, ◌++◌}
 use mathlib.Core.Path.{◌≡◌, refl, sym, ◌∙◌, ap, ap₂}
 use lib.ListN.{length, get_or, take, drop, set, length-append}
 use lib.Seq.{length-take-le, take-suc, append_snoc}
+use Rattle.octets.specs.Number.{be}
 use Rattle.octets.specs.Place.{pasted}
 use Rattle.octets.proofs.Place.{pasted-more, drop-set}
 use Rattle.text.specs.Digits.{digit, decimal, hex, hex8}
@@ -69,14 +70,19 @@ digits_left n at h k =
     ap length (decimal-more n h) ∙ length-append (decimal (n / 10)) (digit (n % 10) ∷ []) in
     (omega (arith, decimal_some (n / 10)), omega (arith, decimal_some (n / 10)))
 
--- eight digits are those of the number
-pub eight : (n a b c d e f g h : ℕ)
-    → a ≡ digit (n / 16 / 16 / 16 / 16 / 16 / 16 / 16 % 16) → b ≡ digit (n / 16 / 16 / 16 / 16 / 16 / 16 % 16)
-    → c ≡ digit (n / 16 / 16 / 16 / 16 / 16 % 16) → d ≡ digit (n / 16 / 16 / 16 / 16 % 16)
-    → e ≡ digit (n / 16 / 16 / 16 % 16) → f ≡ digit (n / 16 / 16 % 16) → g ≡ digit (n / 16 % 16) → h ≡ digit (n % 16)
-    → a ∷ b ∷ c ∷ d ∷ e ∷ f ∷ g ∷ h ∷ [] ≡ hex8 n
+-- eight hex digits are four bytes in hex, the most significant first
+pub hex8_be : (n : ℕ) → hex (be 4 n) ≡ hex8 n
 unfolding hex8
-eight n a b c d e f g h p q r s t u v w = rw (p, q, r, s, t, u, v, w)
+hex8_be n =
+    let a : n / 256 / 256 / 256 % 256 / 16 ≡ n / 16 / 16 / 16 / 16 / 16 / 16 / 16 % 16 = omega arith in
+    let b : n / 256 / 256 / 256 % 256 % 16 ≡ n / 16 / 16 / 16 / 16 / 16 / 16 % 16 = omega arith in
+    let c : n / 256 / 256 % 256 / 16 ≡ n / 16 / 16 / 16 / 16 / 16 % 16 = omega arith in
+    let d : n / 256 / 256 % 256 % 16 ≡ n / 16 / 16 / 16 / 16 % 16 = omega arith in
+    let e : n / 256 % 256 / 16 ≡ n / 16 / 16 / 16 % 16 = omega arith in
+    let f : n / 256 % 256 % 16 ≡ n / 16 / 16 % 16 = omega arith in
+    let g : n % 256 / 16 ≡ n / 16 % 16 = omega arith in
+    let h : n % 256 % 16 ≡ n % 16 = omega arith in
+    rw (a, b, c, d, e, f, g, h)
 
 pub length-hex8 : (n : ℕ) → length (hex8 n) ≡ 8
 unfolding hex8

@@ -100,17 +100,11 @@ fn put_bytes(out: &mut [u8], at: usize, s: &[u8])
 pub fn unhex(out: &mut [u8], at: usize, s: &[u8]) -> Result<usize, UnhexError>
     ensures { UnhexPromise out.old at s.now result out.new }
 {
-    if s.len() % 2 != 0 {
-        return Err(UnhexError::Bad);
-    }
-    if !is_hex(s) {
+    if s.len() % 2 != 0 || !is_hex(s) {
         return Err(UnhexError::Bad);
     }
     let n = s.len() / 2;
-    if out.len() < n {
-        return Err(UnhexError::NoRoom);
-    }
-    if out.len() - n < at {
+    if out.len() < n || out.len() - n < at {
         return Err(UnhexError::NoRoom);
     }
     put_bytes(out, at, s);

@@ -17,13 +17,7 @@ pub struct Cursor {
 fn has_room(c: Cursor, m: usize, n: usize) -> bool
     ensures { result ≡ takes c m n }
 {
-    if c.full {
-        return false;
-    }
-    if m < n {
-        return false;
-    }
-    c.at <= m - n
+    !c.full && n <= m && c.at <= m - n
 }
 
 // Adds bytes as they are.
@@ -109,28 +103,10 @@ pub fn hex(out: &mut [u8], c: Cursor, s: &[u8]) -> Cursor
     Cursor { at, full: true }
 }
 
-// The last hex digit of a number.
-fn spell_last(n: u32) -> u8
-    ensures { result ≡ digit (n % 16) }
-{
-    spell_digit((n % 16) as u8)
-}
-
 // Adds a number as eight hex digits.
-#[tactic(auto, using(crate::proofs::Writing::add_of, crate::proofs::Writing::eight))]
+#[tactic(auto, using(crate::proofs::Writing::hex8_be, crate::proofs::Writing::add_of))]
 pub fn hex8(out: &mut [u8], c: Cursor, n: u32) -> Cursor
     ensures { AddPromise out.old c (hex8 n) result out.new }
 {
-    let high = n / 16 / 16 / 16 / 16;
-    let text = [
-        spell_last(high / 16 / 16 / 16),
-        spell_last(high / 16 / 16),
-        spell_last(high / 16),
-        spell_last(high),
-        spell_last(n / 16 / 16 / 16),
-        spell_last(n / 16 / 16),
-        spell_last(n / 16),
-        spell_last(n),
-    ];
-    add(out, c, &text)
+    hex(out, c, &octets::be::<4>(n as u64))
 }

@@ -4,9 +4,9 @@
 #![tactic(auto)]
 
 use arrivals::Arrivals;
-use frame::{PayloadType, Reading, SubState, Written};
+use frame::{PayloadType, SubState};
 use keys::Keys;
-use messages::open_session::RequestedPrivilege;
+use keys::state::Named;
 use refusal::Refusal;
 use session::{Asked, Lookup, Record};
 use std::io;
@@ -51,10 +51,12 @@ const IV: [u8; 16] = [
     0x60, 0x61, 0x62, 0x63, 0x64, 0x65, 0x66, 0x67, 0x68, 0x69, 0x6a, 0x6b, 0x6c, 0x6d, 0x6e, 0x6f,
 ];
 
-// The user's name, in its sixteen bytes.
-const NAME: [u8; 16] = *b"nightdesk\x00\x00\x00\x00\x00\x00\x00";
-
-const NAME_LEN: usize = 9;
+// The user's rights and name, as the system knows them: level 2, looked up by name only.
+const USER: Named = Named {
+    role: 0x12,
+    name: *b"nightdesk\x00\x00\x00\x00\x00\x00\x00",
+    len: 9,
+};
 
 // The first `n` bytes of what was written, where there are as many.
 fn print_first(rt: &impl Print, out: &[u8], n: usize) -> io::Result<()> {
@@ -93,7 +95,7 @@ fn open_session(rt: &impl Print) -> io::Result<Record> {
     let kg = [0x77u8; 20];
     let asked = Asked {
         console: 0x0aa2a3a4,
-        level: RequestedPrivilege::Level(2),
+        level: Some(2),
         lookup: Lookup::NameOnly,
     };
     let a = session::begin(asked, b"nightdesk", &mut out);
@@ -107,55 +109,13 @@ fn open_session(rt: &impl Print) -> io::Result<Record> {
 }
 
 // The system's session, from its own SIK.
-fn make_system_session() -> SubState {
-    let kg = [0x77u8; 20];
-    let h = keys::state::sik(&kg, b"renderfarm", RM, RC, 0x12, NAME, NAME_LEN);
-    let digest = h.digest;
-    SubState {
-        keys: Keys::from_sik(digest),
+fn make_system_session() -> Result<SubState, Refusal> {
+    let sik = keys::state::sik(&[0x77u8; 20], b"renderfarm", RM, RC, USER)?;
+    Ok(SubState {
+        keys: Keys::from_sik(sik.digest),
         confidentiality: frame::Confidentiality::AesCbc128,
         integrity: frame::Integrity::HmacSha1_96,
-    }
-}
-
-// What the system reads of a datagram.
-fn read_back(rt: &impl Print, datagram: &mut [u8]) -> io::Result<()> {
-    let session = make_system_session();
-    let r = frame::read_datagram(session, datagram);
-    let c = session.confidentiality;
-    let encrypted = frame::encrypts(c);
-    let answer = r.answer;
-    if let Reading::Accepted {
-        ty: _,
-        session_id: _,
-        session_sequence_number: _,
-        len,
-    } = answer
-    {
-        if 4 <= datagram.len() {
-            print_line(
-                rt,
-                b"read back ",
-                frame::payload(&datagram[4..], encrypted, len),
-            )?;
-        }
-    }
-    Ok(())
-}
-
-// An open session and the record of what arrived in it, which the console holds together.
-#[derive(Clone, Copy)]
-struct Held {
-    session: SubState,
-    arrivals: Arrivals,
-}
-
-// A session that was just opened starts with a new record.
-fn hold(session: SubState) -> Held {
-    Held {
-        session,
-        arrivals: Arrivals::new(),
-    }
+    })
 }
 
 // A line of the payload that was read out of a datagram.
@@ -166,31 +126,55 @@ fn print_payload(
     datagram: &[u8],
     len: usize,
 ) -> io::Result<()> {
-    let c = session.confidentiality;
-    let encrypted = frame::encrypts(c);
+    let encrypted = frame::encrypts(session.confidentiality);
     if 4 <= datagram.len() {
         print_line(rt, label, frame::payload(&datagram[4..], encrypted, len))?;
     }
     Ok(())
 }
 
+// What the system reads of a datagram.
+fn read_back(rt: &impl Print, datagram: &mut [u8]) -> io::Result<()> {
+    let label = b"read back ";
+    let session = match make_system_session() {
+        Ok(session) => session,
+        Err(why) => return print_refusal(rt, label, why),
+    };
+    match frame::read_datagram(session, datagram).answer {
+        Ok(accepted) => print_payload(rt, label, session, datagram, accepted.len),
+        Err(why) => print_refusal(rt, label, why),
+    }
+}
+
+// An open session and the record of what arrived in it, which the console holds together.
+#[derive(Clone, Copy)]
+struct Held {
+    session: SubState,
+    arrivals: Arrivals,
+}
+
+impl Held {
+    // A session that was just opened starts with a new record.
+    fn new(session: SubState) -> Held {
+        Held {
+            session,
+            arrivals: Arrivals::new(),
+        }
+    }
+}
+
 // What the console reads of a datagram that arrives; it then holds the session with the record after it.
 fn read_once(rt: &impl Print, label: &[u8], held: Held, datagram: &mut [u8]) -> io::Result<Held> {
     let session = held.session;
     let o = once::read_datagram(session, held.arrivals, datagram);
-    let r = o.read;
-    let answer = r.answer;
-    match answer {
-        Reading::Accepted {
-            ty: _,
-            session_id: _,
-            session_sequence_number: _,
-            len,
-        } => print_payload(rt, label, session, datagram, len)?,
-        Reading::Refused(why) => print_refusal(rt, label, why)?,
+    match o.read.answer {
+        Ok(accepted) => print_payload(rt, label, session, datagram, accepted.len)?,
+        Err(why) => print_refusal(rt, label, why)?,
     }
-    let arrivals = o.arrivals;
-    Ok(Held { session, arrivals })
+    Ok(Held {
+        session,
+        arrivals: o.arrivals,
+    })
 }
 
 // The system's answer arrives at the console, and the same bytes come again.
@@ -203,19 +187,19 @@ fn read_answer_twice(rt: &impl Print, console: Held) -> io::Result<()> {
 }
 
 fn print_keys(rt: &impl Print, k: Keys) -> io::Result<()> {
-    let k1 = k.k1;
-    print_line(rt, b"k1 ", &k1)?;
+    print_line(rt, b"k1 ", &k.k1)?;
     print_line(rt, b"aes ", &k.aes_key())
 }
 
 fn main(rt: HostRuntime) -> io::Result<()> {
-    let made = session::sub_state(open_session(&rt)?);
-    let console = hold(made.session);
-    let s = console.session;
-    print_keys(&rt, s.keys)?;
+    let session = match session::sub_state(open_session(&rt)?) {
+        Ok(session) => session,
+        Err(why) => return print_refusal(&rt, b"session ", why),
+    };
+    print_keys(&rt, session.keys)?;
     let mut out = [0u8; 64];
     let w = frame::write_datagram(
-        s,
+        session,
         PayloadType::IpmiMessage,
         0x4a7134e0,
         1,
@@ -223,11 +207,11 @@ fn main(rt: HostRuntime) -> io::Result<()> {
         IV,
         &mut out,
     );
-    if let Written::Length(n) = w {
+    if let Ok(n) = w {
         print_message(&rt, b"datagram ", n, &out)?;
         if n == 64 {
             read_back(&rt, &mut out)?;
         }
     }
-    read_answer_twice(&rt, console)
+    read_answer_twice(&rt, Held::new(session))
 }

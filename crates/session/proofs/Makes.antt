@@ -14,6 +14,7 @@ use Rattle.refusal.specs.Answer.{told_as}
 use Rattle.refusal.specs.declared.Refusal.TheVariants.{Declined}
 use Rattle.refusal.proofs.Order.{refuse≢accept, accept_inj}
 use Rattle.messages.specs.Answers.{told_written}
+use Rattle.messages.specs.declared.open_session.OpenSessionRequest.{OpenSessionRequest}
 use Rattle.messages.specs.declared.rakp_1.RakpMessage1.{RakpMessage1}
 use Rattle.messages.specs.declared.rakp_3.RakpMessage3.{RakpMessage3}
 use Rattle.octets.specs.Equal.{same}
@@ -37,9 +38,8 @@ use Rattle.messages.proofs.Writing.{wrote, size1}
 use Rattle.messages.proofs.Answered.{found_2, found_4}
 use Rattle.session.specs.Constants.{code_size, request_size, one_size, three_size}
 use Rattle.session.specs.Record.{closed}
-use Rattle.session.specs.Steps.{Made, heard_two, request_of, three_of, value_four}
+use Rattle.session.specs.Steps.{Made, heard_two, three_of, value_four}
 use Rattle.session.specs.Promise.{StepPromise}
-use Rattle.session.specs.declared.Asked.{Asked}
 use Rattle.session.specs.declared.Record.{Record}
 use Rattle.session.proofs.Stages.{step_made}
 use Rattle.session.proofs.Chains.{two_found}
@@ -89,9 +89,9 @@ module _ (bytes out : List ℕ) (r : Result ℕ Refusal) (x : List ℕ) (p : Wri
       record { answer = refl; next = f; len = l ∙ ap length b; buffer = w.1 ∙ ap (λ (l : List ℕ). begun l out) b }
 
 -- how long the messages are
-pub request_length : (asked : Asked) → length (request_of asked) ≡ request_size
-unfolding request_of open_request
-request_length asked = refl
+pub request_fits : (r : OpenSessionRequest) (out : List ℕ) → request_size ≤ length out → length (open_request r) ≤ length out
+unfolding open_request
+request_fits r out h = h
 
 name_size : (u : Username) → length u.bytes ≡ 16 → u.len ≤ 16 → u.len ≡ length (name_of u)
 unfolding name_of

@@ -16,7 +16,7 @@ use Rattle.session.proofs.Stages.{promise_as}
 use Rattle.session.proofs.keying.answer_message.Goals as goal
 
 pub unwrap-known-requires : goal.unwrap-known-requires
-unwrap-known-requires c = is_hashed _ _ _ _ c.requires.1 c.message_2_code.ensures
+unwrap-known-requires c = is_hashed _ _ _ _ (omega arith) c.message_2_code.ensures
 
 pub returns-then-not-same : goal.returns-then-not-same
 unfolding proved_two code_two
@@ -33,7 +33,7 @@ unwrap-sik-requires c =
     is_hashed _ _ _ _ (key_short c.args.kg.now c.args.password.now c.requires.0 c.requires.1) c.sik.ensures
 
 pub unwrap-code-requires : goal.unwrap-code-requires
-unwrap-code-requires c = is_hashed _ _ _ _ c.requires.1 c.message_3_code.ensures
+unwrap-code-requires c = is_hashed _ _ _ _ (omega arith) c.message_3_code.ensures
 
 pub unwrap-requires : goal.unwrap-requires
 unwrap-requires c =

@@ -65,6 +65,7 @@ fn fits_limit(len: u32, n: usize, most: usize) -> bool
 
 impl Sha1 {
     // The hash before any byte.
+    #[tactic(auto, unfolding(running::specs::Running::after, running::specs::Hash::runs, octets::specs::Place::filled))]
     pub fn new() -> Sha1
         ensures { state_of result ≡ after sha1_hash [] }
     {
@@ -77,6 +78,7 @@ impl Sha1 {
     }
 
     // The hash after s, or refusal 37.
+    #[tactic(auto, using(running::proofs::Promised::say_yes, running::proofs::Promised::say_no))]
     pub fn update(self, s: &[u8]) -> Result<Sha1, Refusal>
         ensures { FedPromise self s.now result }
     {
@@ -87,6 +89,7 @@ impl Sha1 {
     }
 
     // The hash's twenty bytes; 37 for a state that says it was given too much.
+    #[tactic(auto, using(running::proofs::Promised::within, running::proofs::Promised::past))]
     pub fn finalize(self) -> Result<Hashed, Refusal>
         ensures { EndPromise self result }
     {
@@ -104,6 +107,7 @@ impl Sha1 {
     }
 
     // s behind bytes that wait, where no block becomes full.
+    #[tactic(auto, using(running::proofs::Takes::append_law))]
     fn append(self, s: &[u8]) -> Sha1
         requires { self.len % 64 + length s.now < 64 }
         ensures { state_of result ≡ taken sha1_hash (state_of self) s.now }
@@ -185,6 +189,7 @@ impl Sha1 {
 }
 
 // SHA-1 of s in one call.
+#[tactic(auto, using(running::proofs::Promised::past, running::proofs::Fed::hashed_whole))]
 pub fn hash(s: &[u8]) -> Result<Hashed, Refusal>
     ensures { HashPromise s.now result }
 {

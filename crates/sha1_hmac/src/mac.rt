@@ -60,6 +60,7 @@ fn mask_block(mut block: [u8; 64], x: u8) -> [u8; 64]
 }
 
 // The state that a key leaves.
+#[tactic(auto, using(running::proofs::Macs::begin_law, sha1_block::proofs::Laws::sha1_sized))]
 fn begin(key: &[u8]) -> Sha1Hmac
     requires { length key.now ≤ limit }
     ensures { mac_state_of result ≡ mac_after sha1_hash key.now [] }
@@ -94,6 +95,7 @@ fn make_last_block(digest: [u8; 20]) -> [u8; 64]
 
 impl Sha1Hmac {
     // HMAC under a key, before any byte of the message; 37 for a key that is too long.
+    #[tactic(auto, using(running::proofs::Promised::within, running::proofs::Promised::past))]
     pub fn new(key: &[u8]) -> Result<Sha1Hmac, Refusal>
         ensures { BegunPromise key.now result }
     {
@@ -104,6 +106,7 @@ impl Sha1Hmac {
     }
 
     // HMAC after the piece s, or refusal 37.
+    #[tactic(auto, using(running::proofs::Promised::say_yes, running::proofs::Promised::say_no))]
     pub fn feed(self, s: &[u8]) -> Result<Sha1Hmac, Refusal>
         ensures { MacFedPromise self s.now result }
     {
@@ -114,6 +117,7 @@ impl Sha1Hmac {
     }
 
     // The code; 37 for a state that says it was given too much.
+    #[tactic(auto, using(running::proofs::Promised::within, running::proofs::Promised::past))]
     pub fn finalize(self) -> Result<Hashed, Refusal>
         ensures { MacEndPromise self result }
     {
@@ -124,6 +128,7 @@ impl Sha1Hmac {
     }
 
     // The blocks compressed so far, those of the key among them.
+    #[tactic(auto, unfolding(running::specs::Mac::mac_running))]
     pub fn blocks(self) -> u32
         ensures { result ≡ mac_running (mac_state_of self) }
     {
@@ -131,6 +136,7 @@ impl Sha1Hmac {
     }
 
     // HMAC after the piece s, which the limit lets in.
+    #[tactic(auto, using(running::proofs::Macs::mac_absorb_law, sha1_block::proofs::Laws::sha1_sized))]
     fn absorb(self, s: &[u8]) -> Sha1Hmac
         requires { length s.now ≤ inner_limit }
         ensures { mac_state_of result ≡ mac_taken sha1_hash (mac_state_of self) s.now }

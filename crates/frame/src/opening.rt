@@ -23,6 +23,7 @@ fn is_openable(packet: &[u8]) -> bool
 }
 
 // Whole blocks are never refused.
+#[tactic(auto, unfolding(cbc::specs::Promise::whole, refusal::specs::Order::need))]
 fn decrypt(key: [u8; 16], iv: [u8; 16], s: &mut [u8])
     requires { length s.old % 16 ≡ 0 }
     ensures { s.new ≡ cbc_decrypt key iv s.old }
@@ -44,6 +45,7 @@ fn decrypt_body(s: SubState, packet: &mut [u8])
 
 // Opens a packet in its own buffer. Without AES, and where the packet has no such body, nothing changes. It checks nothing else: a
 // packet to open is one that a reading has accepted.
+#[tactic(auto, unfolding(framing::specs::Read::openable, framing::specs::Read::opened))]
 pub fn open_in_place(s: SubState, packet: &mut [u8])
     ensures { packet.new ≡ cond (openable packet.old) (opened (suite_of s) packet.old) packet.old }
 {
@@ -66,6 +68,7 @@ pub fn read_payload(s: SubState, packet: &mut [u8]) -> Read
 }
 
 // Whether a datagram begins with the four outer bytes, behind which a packet stands.
+#[tactic(auto, unfolding(framing::specs::Outer::outer_of, refusal::specs::Order::need))]
 pub fn check_outer(datagram: &[u8]) -> Result<(), Refusal>
     ensures { told result ≡ outer_of datagram.now }
 {
@@ -79,6 +82,7 @@ pub fn check_outer(datagram: &[u8]) -> Result<(), Refusal>
 }
 
 // Reads a datagram: the four outer bytes, then a packet.
+#[tactic(auto, unfolding(framing::specs::Outer::read_datagram_of, framing::specs::Outer::blocks_datagram, framing::specs::Outer::left_datagram, framing::specs::Told::shown, refusal::specs::Order::and_then))]
 pub fn read_datagram(s: SubState, datagram: &mut [u8]) -> Read
     ensures read_promise { ReadPromise (read_datagram_of (suite_of s) datagram.old)
         (blocks_datagram (suite_of s) datagram.old) (left_datagram (suite_of s) datagram.old) result datagram.new }

@@ -10,6 +10,7 @@ fn find_start(encrypted: bool) -> usize
 }
 
 // The payload of `len` bytes as a part of the packet that was read; empty where it would pass the packet's end.
+#[tactic(auto, unfolding(framing::specs::Payload::payload_of, framing::specs::Payload::payload_at))]
 pub fn payload(packet: &[u8], encrypted: bool, len: usize) -> &[u8]
     ensures { (result.now ≡ payload_of packet.now encrypted len)
         × (result.ref_ptr.0 ≡ packet.entry.ref_ptr.0) × (result.ref_ptr.1 ≡ packet.entry.ref_ptr.1 + payload_at packet.now encrypted len) }

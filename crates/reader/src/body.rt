@@ -70,6 +70,7 @@ fn strip_pad(s: SubState, body: &[u8]) -> Result<usize, Refusal>
 }
 
 // An encrypted body: the IV, then whole blocks, at least one.
+#[tactic(auto, unfolding(framing::specs::Read::decrypted, framing::specs::Told::counted, refusal::specs::Order::need, refusal::specs::Order::and_then))]
 fn read_encrypted(s: SubState, body: &[u8]) -> Result<usize, Refusal>
     ensures { stage_told result ≡ counted (decrypted (suite_of s) body.now) }
 {
@@ -87,6 +88,7 @@ fn read_encrypted(s: SubState, body: &[u8]) -> Result<usize, Refusal>
 }
 
 // Without AES the body is the payload.
+#[tactic(auto, unfolding(framing::specs::Read::payload_in, framing::specs::Told::counted, refusal::specs::Order::and_then))]
 pub(crate) fn read_body(s: SubState, body: &[u8]) -> Result<usize, Refusal>
     ensures { stage_told result ≡ counted (payload_in (suite_of s) body.now) }
 {

@@ -33,7 +33,11 @@ pub struct Read {
     pub blocks: u32,
 }
 
+// Session and packet stay two arguments: a stage hands the session on beside a shorter packet, so one value for both would be
+// built anew at every stage.
+
 // The checks that need no code: first byte, type, the two bits, the ceiling.
+#[tactic(auto, unfolding(framing::specs::Read::head_of, refusal::specs::Order::need))]
 fn check_head(s: SubState, packet: &[u8]) -> Result<PayloadType, Refusal>
     ensures { head_told result ≡ head_of (suite_of s) packet.now }
 {
@@ -58,6 +62,7 @@ fn check_head(s: SubState, packet: &[u8]) -> Result<PayloadType, Refusal>
 }
 
 // How many bytes are left before the trailer, given the code that the packet ought to end with.
+#[tactic(auto, unfolding(framing::specs::Read::trailer_of, refusal::specs::Order::need))]
 fn check_trailer(s: SubState, code: &[u8], packet: &[u8]) -> Result<usize, Refusal>
     ensures { stage_told result ≡ trailer_of (suite_of s) code.now packet.now }
 {
@@ -77,13 +82,11 @@ fn check_trailer(s: SubState, code: &[u8], packet: &[u8]) -> Result<usize, Refus
         return Err(Refusal::UnknownNextHeader(next));
     }
     let q = usize::from(packet[k - 2]);
-    if k - 2 < q {
-        return Ok(0);
-    }
-    Ok(k - 2 - q)
+    Ok((k - 2).saturating_sub(q))
 }
 
 // Without integrity there is no trailer.
+#[tactic(auto, unfolding(framing::specs::Read::before_trailer))]
 fn strip_trailer(s: SubState, code: &[u8], packet: &[u8]) -> Result<usize, Refusal>
     ensures { stage_told result ≡ before_trailer (suite_of s) code.now packet.now }
 {
@@ -95,6 +98,7 @@ fn strip_trailer(s: SubState, code: &[u8], packet: &[u8]) -> Result<usize, Refus
 }
 
 // Header and body, once the trailer is off: the payload's length.
+#[tactic(auto, unfolding(framing::specs::Read::body_in, framing::specs::Told::counted, refusal::specs::Order::need, refusal::specs::Order::and_then))]
 fn check_body(s: SubState, left: &[u8]) -> Result<usize, Refusal>
     ensures { stage_told result ≡ counted (body_in (suite_of s) left.now) }
 {
@@ -109,6 +113,7 @@ fn check_body(s: SubState, left: &[u8]) -> Result<usize, Refusal>
 }
 
 // The payload's length behind the head, given the code that the packet ought to end with.
+#[tactic(auto, unfolding(framing::specs::Read::payload_behind, framing::specs::Told::counted, refusal::specs::Order::and_then))]
 fn find_payload(s: SubState, code: &[u8], packet: &[u8]) -> Result<usize, Refusal>
     ensures { stage_told result ≡ counted (payload_behind (suite_of s) code.now packet.now) }
 {
@@ -117,6 +122,7 @@ fn find_payload(s: SubState, code: &[u8], packet: &[u8]) -> Result<usize, Refusa
 }
 
 // All behind the head, given that code.
+#[tactic(auto, unfolding(framing::specs::Read::rest_of, framing::specs::Told::shown, framing::specs::Told::counted, refusal::specs::Order::and_then))]
 fn read_rest(s: SubState, ty: PayloadType, code: &[u8], packet: &[u8]) -> Result<Accepted, Refusal>
     ensures { read_told result ≡ shown (rest_of (suite_of s) code.now packet.now (type_number ty)) }
 {
@@ -166,6 +172,7 @@ fn read_behind_head(s: SubState, ty: PayloadType, packet: &[u8]) -> Read
 }
 
 // Every check of a packet of a session, before a byte changes.
+#[tactic(auto, unfolding(framing::specs::Read::read_of, framing::specs::Read::read_with, framing::specs::Read::blocks_of, framing::specs::Read::blocks_with, framing::specs::Read::compares_code, framing::specs::Told::shown, refusal::specs::Order::and_then))]
 pub fn read_checked(s: SubState, packet: &[u8]) -> Read
     ensures { Tells (read_of (suite_of s) packet.now) (blocks_of (suite_of s) packet.now) result }
 {
@@ -178,7 +185,8 @@ pub fn read_checked(s: SubState, packet: &[u8]) -> Read
     }
 }
 
-// The blocks that are told, of as many as the code took.
+// The blocks that are told, of as many as the code took. This test is made once in a reading, here or where the code is computed;
+// `check_trailer` tests the length again, since its refusal comes after the head's.
 fn tell_blocks(s: SubState, blocks: u32, packet: &[u8]) -> u32
     ensures { result ≡ cond (has_code (suite_of s) packet.now) blocks 0 }
 {
@@ -187,6 +195,7 @@ fn tell_blocks(s: SubState, blocks: u32, packet: &[u8]) -> u32
 
 // The same checks for a caller who has computed the code that the packet ought to end with: it is handed in, with the blocks that
 // it took.
+#[tactic(auto, unfolding(framing::specs::Read::read_with, framing::specs::Read::blocks_with, framing::specs::Read::compares_code, framing::specs::Told::shown, refusal::specs::Order::and_then))]
 pub fn read_with_code(s: SubState, code: &[u8], blocks: u32, packet: &[u8]) -> Read
     ensures { Tells (read_with (suite_of s) code.now packet.now)
         (blocks_with (suite_of s) blocks packet.now) result }

@@ -25,7 +25,8 @@ struct Message<'a> {
     payload: &'a [u8],
 }
 
-// The least count of pad bytes for whole blocks.
+// The least count of pad bytes for whole blocks. This and the next stay two: one for any block would be told the bytes that follow the
+// pad too, and each caller would say two numbers in place of none.
 fn choose_p(n: usize) -> usize
     requires { n ≤ 65535 }
     ensures { result ≡ least_p n }
@@ -72,6 +73,7 @@ fn find_longest_payload(c: Confidentiality) -> usize
 }
 
 // The writer's refusals, for a payload of n bytes behind `before` others.
+#[tactic(auto, unfolding(framing::specs::Write::room_of, refusal::specs::Order::need))]
 fn check_room(s: SubState, n: usize, before: usize, room: usize) -> Result<usize, Refusal>
     requires { before ≤ 4 }
     ensures { stage_told result ≡ room_of (suite_of s) before n room }
@@ -90,6 +92,7 @@ fn check_room(s: SubState, n: usize, before: usize, room: usize) -> Result<usize
 }
 
 // The twelve bytes before a body of n bytes.
+#[tactic(auto, unfolding(framing::specs::Packet::header_of))]
 fn make_header(s: SubState, m: Message, n: usize) -> [u8; 12]
     requires { n ≤ 65535 }
     ensures { result ≡ header_of (suite_of s) (record { ty = type_number m.entry.ty; id = m.entry.id; seq = m.entry.seq; payload = m.entry.payload.now }) n }
@@ -129,6 +132,7 @@ fn put_trailer(out: &mut [u8], at: usize, q: usize)
 }
 
 // Whole blocks are never refused.
+#[tactic(auto, unfolding(cbc::specs::Promise::whole, refusal::specs::Order::need))]
 fn encrypt(key: [u8; 16], iv: [u8; 16], s: &mut [u8])
     requires { length s.old % 16 ≡ 0 }
     ensures { s.new ≡ cbc_encrypt key iv s.old }
@@ -152,6 +156,7 @@ fn write_encrypted(s: SubState, payload: &[u8], iv: [u8; 16], out: &mut [u8])
 }
 
 // The body at its place.
+#[tactic(auto, unfolding(framing::specs::Write::our_body))]
 fn write_body(s: SubState, payload: &[u8], iv: [u8; 16], out: &mut [u8])
     requires { (length payload.now ≤ 65535) × (12 + body_size (suite_of s).aes (length payload.now) ≤ length out.old) }
     ensures { out.new ≡ pasted out.old 12 (our_body (suite_of s) payload.now iv) }
@@ -215,7 +220,8 @@ fn write_behind(
     Ok(n)
 }
 
-// Writes a packet of a session.
+// Writes a packet of a session. The seven stand one by one here and in the next, since the theorems over calls (`WriteSeen` and
+// `Follows`, in frame's specs) take a call's arguments by their places.
 #[tactic(auto, unfolding(framing::specs::Outer::write_of))]
 pub fn write_payload(
     s: SubState,

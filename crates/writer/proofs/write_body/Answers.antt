@@ -1,16 +1,12 @@
--- `write_body` keeps its promise: with AES the encrypted body, else the payload.
+-- `write_body` keeps its promise: without AES the payload is put at its place.
 use Prim.Native.Nat.{◌+◌, ◌≤◌}
 use mathlib.Core.Bool.{Bool}
 use mathlib.Core.Path.{sym, ◌∙◌, subst}
 use lib.ListN.{length}
 use Rattle.framing.specs.Write.{body_size}
-use Rattle.framing.proofs.Writes.{body_bare, body_aes}
+use Rattle.framing.proofs.Writes.{body_bare}
 use Rattle.suite.specs.Session.{suite_of}
 use Rattle.writer.proofs.write_body.Goals as goal
-
-pub returns-then-encrypts : goal.returns-then-encrypts
-returns-then-encrypts c =
-    body_aes (suite_of c.args.s) _ _ _ _ (sym c.encrypts.ensures ∙ c.if-encrypts.true) c.write_encrypted.ensures
 
 pub returns-else-encrypts : goal.returns-else-encrypts
 returns-else-encrypts c =

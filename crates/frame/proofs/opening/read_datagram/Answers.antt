@@ -3,7 +3,7 @@ use native.Mathlib.Omega.{arith}
 use mathlib.Core.Path.{refl, ap, sym, ◌∙◌}
 use Rattle.refusal.specs.Answer.{told}
 use Rattle.framing.proofs.Outer.{outer_inv}
-use Rattle.framing.proofs.InPlace.{outer_no, outer_on}
+use Rattle.framing.proofs.InPlace.{outer_on}
 use Rattle.frame.proofs.Promised.{reads}
 use Rattle.frame.proofs.opening.read_datagram.Goals as goal
 
@@ -13,10 +13,6 @@ slice_bounds-read_payload-count c =
 
 pub slice_bounds-read_payload-start : goal.slice_bounds-read_payload-start
 slice_bounds-read_payload-start c = slice_bounds-read_payload-count c
-
-pub returns-in-Err-clause-read_promise : goal.returns-in-Err-clause-read_promise
-returns-in-Err-clause-read_promise c =
-    reads _ _ _ _ _ (outer_no _ _ _ c.check_outer.ensures _ _ (ap told c.in-Err.is))
 
 pub returns-in-Ok-clause-read_promise : goal.returns-in-Ok-clause-read_promise
 returns-in-Ok-clause-read_promise c =

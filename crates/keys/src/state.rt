@@ -58,6 +58,7 @@ fn make_code(key: &[u8], pieces: &[&[u8]], named: Named) -> Result<Hashed, Refus
 }
 
 // Message 2's code: that the system knows the password.
+#[tactic(auto, using(crate::proofs::Texts::room_2))]
 pub fn message_2_code(
     password: &[u8],
     sidm: u32,
@@ -76,6 +77,7 @@ pub fn message_2_code(
 }
 
 // The key from which the session's keys come.
+#[tactic(auto, using(crate::proofs::Texts::room_sik))]
 pub fn sik<'a>(
     key: &'a [u8],
     password: &'a [u8],
@@ -92,6 +94,7 @@ pub fn sik<'a>(
 }
 
 // Message 3's code: that the console knows the password.
+#[tactic(auto, using(crate::proofs::Texts::room_3))]
 pub fn message_3_code(
     password: &[u8],
     rc: [u8; 16],

@@ -1,11 +1,8 @@
 -- `message_2_code` keeps its promise.
-use Rattle.std.proofs.Common.{◌≡◌, ap, ◌∙◌, rules}
+use Rattle.std.proofs.Common.{◌≡◌, ap, ◌∙◌}
 use Rattle.octets.specs.Number.{le}
-use Rattle.keys.proofs.Texts.{room_2, joined_2}
+use Rattle.keys.proofs.Texts.{joined_2}
 use Rattle.keys.proofs.state.message_2_code.Goals as goal
-
-pub make_code-requires : goal.make_code-requires
-make_code-requires c = room_2 _ _ _ _ _ (search rules) (search rules) (search rules) (search rules) (search rules)
 
 pub returns : goal.returns
 returns c =

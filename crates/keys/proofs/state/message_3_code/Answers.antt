@@ -1,11 +1,8 @@
 -- `message_3_code` keeps its promise.
-use Rattle.std.proofs.Common.{◌≡◌, ap, ◌∙◌, rules}
+use Rattle.std.proofs.Common.{◌≡◌, ap, ◌∙◌}
 use Rattle.octets.specs.Number.{le}
-use Rattle.keys.proofs.Texts.{room_3, joined_3}
+use Rattle.keys.proofs.Texts.{joined_3}
 use Rattle.keys.proofs.state.message_3_code.Goals as goal
-
-pub make_code-requires : goal.make_code-requires
-make_code-requires c = room_3 _ _ (search rules) (search rules)
 
 pub returns : goal.returns
 returns c =

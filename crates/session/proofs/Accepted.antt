@@ -21,10 +21,6 @@ use Rattle.session.specs.Steps.{ready_two, heard_two, code_two, sik_two, code_th
 use Rattle.session.specs.declared.Asked.{Asked}
 use Rattle.session.specs.declared.Record.{Record}
 
-pub in_step_parts : (s : Record) (k : ℕ) → in_step s k ≡ true → (step_number s.step ≡ k) × (s.begun.username.len ≤ 16)
-unfolding in_step
-in_step_parts s k e = grind (arith, common_steps)
-
 -- Begin
 pub begin_tells : (asked : Asked) (name : List ℕ) (room : ℕ) (M : Made)
     → begin_of asked name room ≡ accept M

@@ -1,12 +1,12 @@
 -- What the steps make: the codes they compute, the messages they write, the records they leave.
-use Prim.Native.Nat.{ℕ, ◌-◌, ◌≤◌}
+use Prim.Native.Nat.{ℕ, ◌≤◌}
 use native.Mathlib.Omega.{arith}
 use Rattle.std.specs.Prelude.{Result, Ok, Err, is_ok}
 use mathlib.Core.Bool.{Bool, true, false}
 use mathlib.Core.List.{List, []}
-use mathlib.Core.Path.{◌≡◌, refl, sym, ◌∙◌, ap, ap₂}
+use mathlib.Core.Path.{◌≡◌, refl, sym, ◌∙◌, ap}
 use lib.Dec.{leb}
-use lib.ListN.{length, take, drop, length-append}
+use lib.ListN.{length, length-append}
 use lib.Seq.{length-take-le}
 use borrow.Author.Tests.{le-leb}
 use Rattle.refusal.specs.Order.{refuse, accept}
@@ -17,9 +17,7 @@ use Rattle.messages.specs.Answers.{told_written}
 use Rattle.messages.specs.declared.open_session.OpenSessionRequest.{OpenSessionRequest}
 use Rattle.messages.specs.declared.rakp_1.RakpMessage1.{RakpMessage1}
 use Rattle.messages.specs.declared.rakp_3.RakpMessage3.{RakpMessage3}
-use Rattle.octets.specs.Equal.{same}
 use Rattle.octets.specs.Place.{begun}
-use Rattle.octets.proofs.Place.{to_end}
 use Rattle.running.specs.Promise.{limit}
 use Rattle.sha1_hmac.specs.Answers.{HashedPromise}
 use Rattle.sha1_hmac.specs.View.{hashed_of}
@@ -38,7 +36,7 @@ use Rattle.messages.proofs.Writing.{wrote, size1}
 use Rattle.messages.proofs.Answered.{found_2, found_4}
 use Rattle.session.specs.Constants.{code_size, request_size, one_size, three_size}
 use Rattle.session.specs.Record.{closed}
-use Rattle.session.specs.Steps.{Made, heard_two, three_of, value_four}
+use Rattle.session.specs.Steps.{Made, heard_two, three_of}
 use Rattle.session.specs.Promise.{StepPromise}
 use Rattle.session.specs.declared.Record.{Record}
 use Rattle.session.proofs.Stages.{step_made}
@@ -124,8 +122,3 @@ value_inside m f e =
     let g = found_4 m f e in
     let z : f.value.at ≡ 8 = ap (λ (x : RakpMessage4). x.value.at) g.0 in
     omega (arith, g.1)
-
--- which is compared from there to the end
-pub same_four : (s : Record) (m : List ℕ) (a : ℕ) (v : List ℕ) (t : Bool) → v ≡ value_four s
-    → t ≡ same (take (length m - a) (drop a m)) v → t ≡ same (drop a m) (value_four s)
-same_four s m a v t g h = h ∙ ap₂ same (to_end (length m) a m (omega arith)) g

@@ -1,4 +1,6 @@
 -- Laws that serve every step: what a refusal of its first stage, of its second, and an acceptance make of the promise.
+use native.Mathlib.Omega.{arith}
+use Rattle.std.proofs.lemmas.Grind.{common_steps}
 use Prim.Native.Nat.{ℕ}
 use Rattle.std.specs.Prelude.{Result, Ok, Err}
 use Rattle.refusal.specs.Answer.{told_as, told}
@@ -10,7 +12,7 @@ use lib.ListN.{length}
 use Rattle.refusal.specs.Order.{Res, refuse, accept, need, and_then}
 use Rattle.refusal.specs.Table.{number_of, value_of, among}
 use Rattle.refusal.specs.declared.Refusal.{Refusal}
-use Rattle.refusal.proofs.Order.{then_refuse, then_accept, refuse≢accept, refuse_as}
+use Rattle.refusal.proofs.Order.{then_refuse, then_accept, refuse_as}
 use Rattle.octets.specs.Place.{begun}
 use Rattle.octets.proofs.Place.{begun_none}
 use Rattle.session.specs.Record.{closed}
@@ -36,7 +38,7 @@ abbrev pub Quiet : ℕ → Type 0
 Quiet n = eqb n 31 ≡ false
 
 pub only_accept : {A : Type 0} (P : ℕ → Type 0) (a : A) → Only P (accept a)
-only_accept P a n v e = absurd (refuse≢accept n v a (sym e))
+only_accept P a n v e = grind (arith, common_steps)
 
 pub only_need : {A : Type 0} (P : ℕ → Type 0) (b : Bool) (n v : ℕ) (r : Res A) → P n → Only P r → Only P (need b n v r)
 unfolding need
@@ -70,8 +72,8 @@ begin_stop R out r y z e k g f =
 
 -- a refusal is told alike of an answer with a value and of one without
 pub told_refused : {A B : Type 0} (f : A → B) (r : Result A Refusal) (n v : ℕ) → told_as f r ≡ refuse n v → told r ≡ refuse n v
-told_refused f (Ok a) n v e = absurd (refuse≢accept n v (f a) (sym e))
-told_refused f (Err q) n v e = refuse_as (number_of q) (value_of q) n v e
+told_refused f (Ok a) n v e = grind (arith, common_steps)
+told_refused f (Err q) n v e = grind (arith, common_steps)
 
 -- two stages one behind the other
 module _ {A B : Type 0} (T : Res A) (U : Res B) (f : B → Res Made) where

@@ -35,7 +35,8 @@ fn is_legal_kg(n: usize) -> bool
     n == 0 || n == KG_LEN
 }
 
-// What is tested before the message is looked at.
+// What is tested before the message is looked at. Kg and password stay two parameters, as they are lent: the codes take the password alone, so
+// a struct of both would be taken apart wherever it came.
 #[tactic(auto, unfolding(crate::specs::Steps::ready_two, refusal::specs::Order::need))]
 fn check_call(state: Record, kg: &[u8], password: &[u8], room: usize) -> Result<(), Refusal>
     ensures { told result ≡ ready_two longest_password state kg.now password.now room }
@@ -116,7 +117,7 @@ fn name_user(state: Record) -> Named
 }
 
 // Message 3 where the system knows the password, else the message that declines. What shows it is the code at message 2's end, compared over
-// all of its bytes.
+// all of its bytes. `f` names the code's place and holds none of its bytes, so the message comes beside it, here and in no other function.
 fn answer_message<'a>(
     state: Record,
     kg: &'a [u8],

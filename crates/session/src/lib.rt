@@ -78,7 +78,7 @@ pub struct Record {
     pub agreed: Agreed,
 }
 
-// What a step leaves: the record, its outcome, and how many bytes it wrote.
+// What a step leaves: the record, its answer, and how many bytes it wrote. A refusal may have written too: the message that declines.
 #[derive(Clone, Copy)]
 pub struct Stepped {
     pub state: Record,

@@ -9,6 +9,7 @@ ghost use Rattle.aes.specs.Schedule.{keys_of};
 ghost use Rattle.aes.specs.Turn.{next_key};
 
 use sbox::{inv_sub_bytes, sub_bytes, xtime};
+use std::array;
 
 // The eleven round keys, one after the other.
 #[derive(Clone, Copy)]
@@ -52,26 +53,29 @@ fn inv_shift_rows(t: [u8; 16]) -> [u8; 16]
     ]
 }
 
-// Each column times the matrix, whose rows are turns of one.
+// Each column times the matrix, whose rows are turns of one. Written out, as the inverse is: made by `array::from_fn` from the
+// column that a byte stands in, the sixteen are not unrolled, and a block costs six times the instructions.
 fn mix_columns(s: [u8; 16]) -> [u8; 16]
     ensures { result ≡ mix_columns s }
 {
-    let s0 = s[0];
-    let s1 = s[1];
-    let s2 = s[2];
-    let s3 = s[3];
-    let s4 = s[4];
-    let s5 = s[5];
-    let s6 = s[6];
-    let s7 = s[7];
-    let s8 = s[8];
-    let s9 = s[9];
-    let s10 = s[10];
-    let s11 = s[11];
-    let s12 = s[12];
-    let s13 = s[13];
-    let s14 = s[14];
-    let s15 = s[15];
+    let [
+        s0,
+        s1,
+        s2,
+        s3,
+        s4,
+        s5,
+        s6,
+        s7,
+        s8,
+        s9,
+        s10,
+        s11,
+        s12,
+        s13,
+        s14,
+        s15,
+    ] = s;
     [
         mix_byte(s0, s1, s2, s3),
         mix_byte(s1, s2, s3, s0),
@@ -96,22 +100,24 @@ fn mix_columns(s: [u8; 16]) -> [u8; 16]
 fn inv_mix_columns(s: [u8; 16]) -> [u8; 16]
     ensures { result ≡ unmix_columns s }
 {
-    let s0 = s[0];
-    let s1 = s[1];
-    let s2 = s[2];
-    let s3 = s[3];
-    let s4 = s[4];
-    let s5 = s[5];
-    let s6 = s[6];
-    let s7 = s[7];
-    let s8 = s[8];
-    let s9 = s[9];
-    let s10 = s[10];
-    let s11 = s[11];
-    let s12 = s[12];
-    let s13 = s[13];
-    let s14 = s[14];
-    let s15 = s[15];
+    let [
+        s0,
+        s1,
+        s2,
+        s3,
+        s4,
+        s5,
+        s6,
+        s7,
+        s8,
+        s9,
+        s10,
+        s11,
+        s12,
+        s13,
+        s14,
+        s15,
+    ] = s;
     [
         unmix_byte(s0, s1, s2, s3),
         unmix_byte(s1, s2, s3, s0),
@@ -137,25 +143,7 @@ fn add_round_key(w: &[u8; 176], n: usize, s: [u8; 16]) -> [u8; 16]
     requires { n < 11 }
     ensures { result ≡ add_round_key w.now n s }
 {
-    let a = 16 * n;
-    [
-        s[0] ^ w[a],
-        s[1] ^ w[a + 1],
-        s[2] ^ w[a + 2],
-        s[3] ^ w[a + 3],
-        s[4] ^ w[a + 4],
-        s[5] ^ w[a + 5],
-        s[6] ^ w[a + 6],
-        s[7] ^ w[a + 7],
-        s[8] ^ w[a + 8],
-        s[9] ^ w[a + 9],
-        s[10] ^ w[a + 10],
-        s[11] ^ w[a + 11],
-        s[12] ^ w[a + 12],
-        s[13] ^ w[a + 13],
-        s[14] ^ w[a + 14],
-        s[15] ^ w[a + 15],
-    ]
+    array::from_fn(|i| s[i] ^ w[16 * n + i])
 }
 
 // The round key after k, by the round's constant.
@@ -193,12 +181,10 @@ impl Aes128 {
         octets::put(&mut keys, 0, &key);
         let mut k = key;
         let mut rc: u8 = 1;
-        let mut n: usize = 0;
-        while n < 10 {
+        for n in 0..10 {
             k = make_next_key(k, rc);
             rc = xtime(rc);
-            n += 1;
-            octets::put(&mut keys, 16 * n, &k);
+            octets::put(&mut keys, 16 * (n + 1), &k);
         }
         Aes128 { keys }
     }
@@ -209,9 +195,7 @@ impl Aes128 {
     {
         let w = self.keys;
         let mut t = add_round_key(&w, 0, block);
-        let mut n: usize = 0;
-        while n < 9 {
-            n += 1;
+        for n in 1..10 {
             t = add_round_key(&w, n, mix_columns(shift_rows(sub_bytes(t))));
         }
         add_round_key(&w, 10, shift_rows(sub_bytes(t)))
@@ -223,10 +207,8 @@ impl Aes128 {
     {
         let w = self.keys;
         let mut t = add_round_key(&w, 10, block);
-        let mut n: usize = 9;
-        while 0 < n {
+        for n in (1..10).rev() {
             t = inv_mix_columns(add_round_key(&w, n, inv_sub_bytes(inv_shift_rows(t))));
-            n -= 1;
         }
         add_round_key(&w, 0, inv_sub_bytes(inv_shift_rows(t)))
     }

@@ -8,29 +8,13 @@ ghost use Rattle.cbc.specs.Promise.{CbcPromise};
 
 use aes::Aes128;
 use refusal::Refusal;
+use std::array;
 
 // The sum of two blocks, bit by bit.
 pub fn xor_block(a: [u8; 16], b: [u8; 16]) -> [u8; 16]
     ensures { result ≡ xor_block a b }
 {
-    [
-        a[0] ^ b[0],
-        a[1] ^ b[1],
-        a[2] ^ b[2],
-        a[3] ^ b[3],
-        a[4] ^ b[4],
-        a[5] ^ b[5],
-        a[6] ^ b[6],
-        a[7] ^ b[7],
-        a[8] ^ b[8],
-        a[9] ^ b[9],
-        a[10] ^ b[10],
-        a[11] ^ b[11],
-        a[12] ^ b[12],
-        a[13] ^ b[13],
-        a[14] ^ b[14],
-        a[15] ^ b[15],
-    ]
+    array::from_fn(|i| a[i] ^ b[i])
 }
 
 // Encrypts whole blocks, each chained on the cipher block before it.
@@ -40,12 +24,10 @@ fn encrypt_blocks(a: Aes128, iv: [u8; 16], s: &mut [u8])
 {
     let n = s.len() / 16;
     let mut v = iv;
-    let mut i: usize = 0;
-    while i < n {
-        let b = octets::block(s, 16 * i);
+    for i in 0..n {
+        let b = octets::cut(s, 16 * i);
         v = a.encrypt_block(xor_block(b, v));
         octets::put(s, 16 * i, &v);
-        i += 1;
     }
 }
 
@@ -56,13 +38,11 @@ fn decrypt_blocks(a: Aes128, iv: [u8; 16], s: &mut [u8])
 {
     let n = s.len() / 16;
     let mut v = iv;
-    let mut i: usize = 0;
-    while i < n {
-        let b = octets::block(s, 16 * i);
+    for i in 0..n {
+        let b = octets::cut(s, 16 * i);
         let p = xor_block(a.decrypt_block(b), v);
         octets::put(s, 16 * i, &p);
         v = b;
-        i += 1;
     }
 }
 

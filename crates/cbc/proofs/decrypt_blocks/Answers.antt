@@ -15,17 +15,17 @@ loop-i-preserved c =
     let put = c.put in
     let xored = c.xor_block-p in
     let decrypt-block = c.decrypt_block in
-    let block = c.block-b in
+    let block = c.cut-b in
     let a = c.args in
     let w : List ℕ = keys_of a.a in
     let h = xored.ensures ∙ ap (λ (y : List ℕ). xor_block y l.v) decrypt-block.ensures in
-    let t = run_turn (opened w) kept l.i _ l.v l.s _ _ _ _ _ _ (omega arith) l.invariant.1 (opened-length w)
-    l.invariant.2 (block.ensures ∙ filled-part 16 l.s (16 * l.i) (omega arith)) h refl put.ensures in
-    (omega arith, t.0, t.1)
+    let t = run_turn (opened w) kept l.i _ l.v l.s _ _ _ _ _ _ (omega arith) l.invariant.0 (opened-length w)
+    l.invariant.1 (block.ensures ∙ filled-part 16 l.s (16 * l.i) (omega arith)) h refl put.ensures in
+    t
 
 pub returns : goal.returns
 returns c =
     let a = c.args in
     let w : List ℕ = keys_of a.a in
     let l = c.loop-i in
-    run_end (opened w) kept l.i (length a.s.now / 16) _ _ _ (omega arith) l.invariant.1 l.invariant.2 ∙ sym (decrypt_run w _ _ _)
+    run_end (opened w) kept l.i (length a.s.now / 16) _ _ _ (omega arith) l.invariant.0 l.invariant.1 ∙ sym (decrypt_run w _ _ _)

@@ -15,17 +15,17 @@ loop-i-preserved c =
     let put = c.put in
     let encrypt-block = c.encrypt_block-v in
     let xored = c.xor_block in
-    let block = c.block-b in
+    let block = c.cut-b in
     let a = c.args in
     let w : List ℕ = keys_of a.a in
     let h = encrypt-block.ensures ∙ ap (cipher w) xored.ensures in
-    let t = run_turn (sealed w) (sealed w) l.i _ l.v l.s _ _ _ _ _ _ (omega arith) l.invariant.1 (sealed_length w)
-    l.invariant.2 (block.ensures ∙ filled-part 16 l.s (16 * l.i) (omega arith)) h h put.ensures in
-    (omega arith, t.0, t.1)
+    let t = run_turn (sealed w) (sealed w) l.i _ l.v l.s _ _ _ _ _ _ (omega arith) l.invariant.0 (sealed_length w)
+    l.invariant.1 (block.ensures ∙ filled-part 16 l.s (16 * l.i) (omega arith)) h h put.ensures in
+    t
 
 pub returns : goal.returns
 returns c =
     let a = c.args in
     let w : List ℕ = keys_of a.a in
     let l = c.loop-i in
-    run_end (sealed w) (sealed w) l.i (length a.s.now / 16) _ _ _ (omega arith) l.invariant.1 l.invariant.2 ∙ sym (encrypt_run w _ _ _)
+    run_end (sealed w) (sealed w) l.i (length a.s.now / 16) _ _ _ (omega arith) l.invariant.0 l.invariant.1 ∙ sym (encrypt_run w _ _ _)

@@ -6,93 +6,72 @@ ghost use Rattle.std.specs.Prelude.{◌≡◌, ◌<◌, ◌≤◌, IfOk, length,
 ghost use Rattle.std.specs.Io.KnownBytes.{Consumes, IsAtEnd};
 
 use arrivals::Arrivals;
-use frame::{Confidentiality, Integrity, PayloadType, Read, Reading, SubState, Written};
+use frame::{Confidentiality, Integrity, PayloadType, Read, SubState};
 use keys::Keys;
 use std::io;
 
+// Room for the longest payload and for its packet.
+const ROOM: usize = 1100;
+
 // What the turns found: the lengths of all packets or payloads, and the last byte of each, added up; where packets are read once, with
 // the two numbers of each record. Every turn is in it, so that the compiler can leave none out.
-#[derive(Clone, Copy)]
+#[derive(Clone, Copy, Default)]
 struct Found {
     lengths: usize,
     ends: usize,
 }
 
+impl Found {
+    // With two numbers more.
+    fn add(self, length: usize, end: usize) -> Found {
+        Found {
+            lengths: self.lengths.wrapping_add(length),
+            ends: self.ends.wrapping_add(end),
+        }
+    }
+
+    // With a packet or payload more, the first `len` bytes of `s`.
+    fn add_made(self, s: &[u8], len: usize) -> Found {
+        if len == 0 || s.len() < len {
+            return self;
+        }
+        self.add(len, usize::from(s[len - 1]))
+    }
+}
+
 fn make_session() -> SubState {
-    let sik = [0x5Au8; 20];
     SubState {
-        keys: Keys::from_sik(sik),
+        keys: Keys::from_sik([0x5A; 20]),
         confidentiality: Confidentiality::AesCbc128,
         integrity: Integrity::HmacSha1_96,
     }
 }
 
-// Room for the longest payload and for its packet.
-fn make_room() -> [u8; 1100]
-    ensures { 1100 ≡ length result }
-{
-    [0u8; 1100]
-}
-
 // The bytes 0, 1, 2 and on, and again from 0 after 255.
 fn fill(s: &mut [u8]) {
-    for i in 0..s.len() {
-        s[i] = (i % 256) as u8;
-    }
-}
-
-// The payload's length for a digit, 0 where there is none for it.
-fn find_size(digit: u8) -> usize
-    ensures { result ≤ 1024 }
-{
-    match digit {
-        b'0' => 7,
-        b'1' => 64,
-        b'2' => 1024,
-        _ => 0,
-    }
-}
-
-fn widen(x: u8) -> usize {
-    x as usize
-}
-
-// What was found before, and a packet or payload more, the first `len` bytes of `s`.
-fn add_found(before: Found, s: &[u8], len: usize) -> Found {
-    if len == 0 {
-        return before;
-    }
-    if s.len() < len {
-        return before;
-    }
-    Found {
-        lengths: std::num::wrapping_add_usize(before.lengths, len),
-        ends: std::num::wrapping_add_usize(before.ends, widen(s[len - 1])),
+    for (i, byte) in s.iter_mut().enumerate() {
+        *byte = (i % 256) as u8;
     }
 }
 
 // Writes the packet and answers its length, 0 where it was refused.
 fn write_packet(s: SubState, payload: &[u8], out: &mut [u8]) -> usize {
-    let iv = [7u8; 16];
-    let w = frame::write_payload(s, PayloadType::IpmiMessage, 0x0A0B0C0D, 1, payload, iv, out);
-    match w {
-        Written::Length(n) => n,
-        Written::Refused(_) => 0,
-    }
+    let iv = [7; 16];
+    let written = frame::write_payload(
+        s,
+        PayloadType::IpmiMessage,
+        0x0A0B0C0D,
+        1,
+        payload,
+        iv,
+        out,
+    );
+    written.unwrap_or(0)
 }
 
 // The payload's length, 0 where the packet was refused.
 fn find_length(r: Read) -> usize {
-    let answer = r.answer;
-    match answer {
-        Reading::Accepted {
-            ty: _,
-            session_id: _,
-            session_sequence_number: _,
-            len,
-        } => len,
-        Reading::Refused(_) => 0,
-    }
+    r.answer.map_or(0, |a| a.len)
 }
 
 // Reads a copy of the packet and answers the payload's length, 0 where it was refused.
@@ -102,29 +81,19 @@ fn read_packet(s: SubState, packet: &[u8], copy: &mut [u8]) -> usize {
 }
 
 fn repeat_write(s: SubState, payload: &[u8], out: &mut [u8], turns: usize) -> Found {
-    let mut f = Found {
-        lengths: 0,
-        ends: 0,
-    };
-    let mut i: usize = 0;
-    while i < turns {
+    let mut f = Found::default();
+    for _ in 0..turns {
         let n = write_packet(s, payload, out);
-        f = add_found(f, out, n);
-        i += 1;
+        f = f.add_made(out, n);
     }
     f
 }
 
 fn repeat_read(s: SubState, packet: &[u8], copy: &mut [u8], turns: usize) -> Found {
-    let mut f = Found {
-        lengths: 0,
-        ends: 0,
-    };
-    let mut i: usize = 0;
-    while i < turns {
+    let mut f = Found::default();
+    for _ in 0..turns {
         let n = read_packet(s, packet, copy);
-        f = add_found(f, frame::payload(copy, true, n), n);
-        i += 1;
+        f = f.add_made(frame::payload(copy, true, n), n);
     }
     f
 }
@@ -149,66 +118,43 @@ fn add_read_once(
     octets::put(copy, 0, packet);
     let r = once::read_payload(s, arrivals, copy);
     let n = find_length(r.read);
-    let f = add_found(before, frame::payload(copy, true, n), n);
-    let after = r.arrivals;
-    Found {
-        lengths: std::num::wrapping_add_usize(f.lengths, after.highest as usize),
-        ends: std::num::wrapping_add_usize(f.ends, after.seen as usize),
-    }
+    before
+        .add_made(frame::payload(copy, true, n), n)
+        .add(r.arrivals.highest as usize, r.arrivals.seen as usize)
 }
 
 fn repeat_read_once(s: SubState, packet: &[u8], copy: &mut [u8], turns: usize) -> Found {
     let arrivals = make_record(turns);
-    let mut f = Found {
-        lengths: 0,
-        ends: 0,
-    };
-    let mut i: usize = 0;
-    while i < turns {
+    let mut f = Found::default();
+    for _ in 0..turns {
         f = add_read_once(f, s, arrivals, packet, copy);
-        i += 1;
     }
     f
 }
 
-// Cuts the two lent pieces and reads: the packet is the first `n` bytes of `out`, and its copy has as many.
-fn cut_and_read(
-    s: SubState,
-    out: &[u8],
-    copy: &mut [u8],
-    n: usize,
-    turns: usize,
-    once: bool,
-) -> Found {
-    if n <= out.len() {
-        if n <= copy.len() {
-            if once {
-                return repeat_read_once(s, &out[..n], &mut copy[..n], turns);
-            }
-            return repeat_read(s, &out[..n], &mut copy[..n], turns);
-        }
-    }
-    Found {
-        lengths: 0,
-        ends: 0,
-    }
-}
-
 fn run_write(payload: &[u8], turns: usize) -> Found {
-    let mut out = make_room();
-    repeat_write(make_session(), payload, &mut out, turns)
+    repeat_write(make_session(), payload, &mut [0; ROOM], turns)
 }
 
+// The packet is what was written of `out`, and its copy has as many bytes.
 fn run_read(payload: &[u8], turns: usize, once: bool) -> Found {
     let s = make_session();
-    let mut out = make_room();
-    let mut copy = make_room();
+    let mut out = [0; ROOM];
+    let mut copy = [0; ROOM];
     let n = write_packet(s, payload, &mut out);
-    cut_and_read(s, &out, &mut copy, n, turns, once)
+    if n > ROOM {
+        return Found::default();
+    }
+    let (packet, copy) = (&out[..n], &mut copy[..n]);
+    if once {
+        repeat_read_once(s, packet, copy, turns)
+    } else {
+        repeat_read(s, packet, copy, turns)
+    }
 }
 
 fn spell_digit(n: usize) -> u8 {
-    48 + (n % 10) as u8
+    b'0' + (n % 10) as u8
 }
 
 // A number in eight digits, so that writing it costs the same whatever it is.
@@ -228,50 +174,81 @@ fn print(rt: &impl Print, label: &[u8], n: usize) -> io::Result<()> {
     rt.write_all(&digits)
 }
 
-fn tell(rt: &impl Print, verb: &[u8], turns: usize, f: Found) -> io::Result<()> {
-    rt.write_all(verb)?;
+// What is done in each turn, and how the input and the output call it.
+#[derive(Clone, Copy)]
+enum Verb {
+    Read,
+    ReadOnce,
+    Write,
+}
+
+impl Verb {
+    fn find(letter: u8) -> Option<Verb> {
+        match letter {
+            b'r' => Some(Verb::Read),
+            b'o' => Some(Verb::ReadOnce),
+            b'w' => Some(Verb::Write),
+            _ => None,
+        }
+    }
+
+    fn name(self) -> &'static [u8] {
+        match self {
+            Verb::Read => b"read",
+            Verb::ReadOnce => b"read once",
+            Verb::Write => b"write",
+        }
+    }
+
+    fn run(self, payload: &[u8], turns: usize) -> Found {
+        match self {
+            Verb::Read => run_read(payload, turns, false),
+            Verb::ReadOnce => run_read(payload, turns, true),
+            Verb::Write => run_write(payload, turns),
+        }
+    }
+}
+
+// The payload's length for a digit, 0 where there is none for it. No Option: with one the compiler knows that a payload is never empty, and
+// leaves out a part of the writing that is to be counted (32 instructions a turn).
+fn find_size(digit: u8) -> usize {
+    match digit {
+        b'0' => 7,
+        b'1' => 64,
+        b'2' => 1024,
+        _ => 0,
+    }
+}
+
+// Verb, payload and turns are no struct: out of one the compiler no longer knows how long a payload can be, and 11 instructions a turn of
+// writing come in that were not counted before.
+fn tell(rt: &impl Print, verb: Verb, payload: &[u8], turns: usize) -> io::Result<()> {
+    let f = verb.run(payload, turns);
+    rt.write_all(verb.name())?;
     print(rt, b" turns ", turns)?;
     print(rt, b" lengths ", f.lengths)?;
     print(rt, b" ends ", f.ends)?;
     rt.write_all(b"\n")
 }
 
-// The turns for a letter and a payload; false for another letter.
-fn run_letter(rt: &impl Print, letter: u8, payload: &[u8], turns: usize) -> io::Result<bool> {
-    match letter {
-        b'r' => {
-            tell(rt, b"read", turns, run_read(payload, turns, false))?;
-            Ok(true)
-        }
-        b'o' => {
-            tell(rt, b"read once", turns, run_read(payload, turns, true))?;
-            Ok(true)
-        }
-        b'w' => {
-            tell(rt, b"write", turns, run_write(payload, turns))?;
-            Ok(true)
-        }
-        _ => Ok(false),
-    }
-}
-
-// Whether the input says what to do, and then does it.
-fn run(rt: &impl Print, given: &[u8], payload: &[u8]) -> io::Result<bool> {
-    if given.len() < 2 {
+// Whether the input says what to do, and then does it; the payload is the beginning of `bytes`.
+fn run(rt: &impl Print, given: &[u8], bytes: &[u8]) -> io::Result<bool> {
+    let [letter, digit, turns @ ..] = given else {
+        return Ok(false);
+    };
+    let Some(verb) = Verb::find(*letter) else {
+        return Ok(false);
+    };
+    let size = find_size(*digit);
+    if size == 0 || bytes.len() < size {
         return Ok(false);
     }
-    let n = find_size(given[1]);
-    if n == 0 {
-        return Ok(false);
-    }
-    if payload.len() < n {
-        return Ok(false);
-    }
-    run_letter(rt, given[0], &payload[..n], given.len() - 2)
+    tell(rt, verb, &bytes[..size], turns.len())?;
+    Ok(true)
 }
 
 // Goes on after a short read, until the input ends or there is no more room, and answers how many bytes were read: they stand at the
-// room's start.
+// room's start. The loop stays: a read says how far it came, and std's whole reads say too little of the room after an error.
 fn read_full<R: io::Read>(input: &mut R, room: &mut [u8]) -> io::Result<usize>
     ensures bound { IfOk result (λ n. n ≤ length room.new) }
     ensures bytes { IfOk result (λ n.
@@ -290,11 +267,11 @@ fn read_full<R: io::Read>(input: &mut R, room: &mut [u8]) -> io::Result<usize>
 }
 
 fn main(rt: HostRuntime) -> io::Result<()> {
-    let mut input = [0u8; 4096];
+    let mut input = [0; 4096];
     let n = read_full(&mut rt.stdin(), &mut input)?;
-    let mut payload = make_room();
-    fill(&mut payload);
-    if !run(&rt, &input[..n], &payload)? {
+    let mut bytes = [0; ROOM];
+    fill(&mut bytes);
+    if !run(&rt, &input[..n], &bytes)? {
         rt.write_all(b"bad input\n")?;
     }
     Ok(())

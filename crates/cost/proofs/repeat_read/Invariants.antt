@@ -1,9 +1,0 @@
--- The copy keeps its length, and the turns are counted.
-use Rattle.std.proofs.Common.{◌≡◌, ◌-◌, ◌≤◌, length}
-use Rattle.cost.proofs.repeat_read.Given as goal
-
-abbrev pub invariant-loop-i : goal.invariant-loop-i
-invariant-loop-i l = (length l.copy ≡ length l.initial.copy) × (l.i ≤ l.turns)
-
-abbrev pub decreases-loop-i : goal.decreases-loop-i
-decreases-loop-i l = l.turns - l.i

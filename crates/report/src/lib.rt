@@ -6,6 +6,9 @@ ghost use Rattle.reader.specs.Answers.{accepted_told};
 ghost use Rattle.text.specs.Promise.{AddPromise};
 ghost use Rattle.report.specs.Told.{Bare, packet_told, numbers_told, found, told};
 
+mod feed;
+
+pub use feed::tell_input;
 use keys::Keys;
 use reader::Accepted;
 use refusal::Refusal;

@@ -1,7 +1,7 @@
 -- Every read puts a byte at least, so fewer are left to fill; what is filled lies within the room, and is what the reader gave.
 use Rattle.std.proofs.Common.{length, take, ◌-◌, ◌≤◌}
 use Rattle.std.specs.Io.KnownBytes.{Consumes}
-use Rattle.packet.proofs.read_full.Given as goal
+use Rattle.report.proofs.feed.read_full.Given as goal
 
 abbrev pub invariant-loop-done : goal.invariant-loop-done
 invariant-loop-done g l = (l.done ≤ length l.room)

@@ -6,7 +6,8 @@ use mathlib.Core.List.{List, ◌++◌, append-nil}
 use lib.ListN.{length, take, drop, length-drop, take-append-drop, drop_of_length-le}
 use lib.Seq.{length-take-le, take_at, drop_at}
 use Rattle.octets.proofs.Place.{to_end}
-use Rattle.refusal.specs.declared.Outcome.{Outcome}
+use Rattle.std.specs.Prelude.{Result}
+use Rattle.refusal.specs.declared.Refusal.{Refusal}
 use Rattle.cbc.specs.Promise.{CbcPromise}
 use Rattle.cbc.specs.Halves.{ByHalves}
 use Rattle.cbc.proofs.Promise.{cbc_done}
@@ -39,7 +40,7 @@ module _ (k : ℕ) (s x l : List ℕ) (h : Cut k s) (e : length x ≡ length (ta
       ∙ ap (λ (z : List ℕ). x ++ z) (append-nil y)
 
 -- of whatever keeps the law by halves
-pub in_two : (f after : List ℕ → List ℕ → List ℕ) (iv s x next y l : List ℕ) (k : ℕ) (r : Outcome) → ByHalves f after iv → Cut k s
+pub in_two : (f after : List ℕ → List ℕ → List ℕ) (iv s x next y l : List ℕ) (k : ℕ) (r : Result Unit Refusal) → ByHalves f after iv → Cut k s
     → Went f after iv (take k s) next x → length x ≡ length (take k s) → l ≡ x ++ drop k s
     → CbcPromise (take (length l - k) (drop k l)) (f next (take (length l - k) (drop k l))) r y
     → take k l ++ (y ++ drop (length l - k) (drop k l)) ≡ f iv s

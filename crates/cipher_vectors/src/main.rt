@@ -7,26 +7,67 @@ ghost use Rattle.cbc.specs.Halves.{handed_on, after_encrypt, after_decrypt};
 ghost use Rattle.cipher_vectors.specs.InTwo.{Went, Cut};
 
 use aes::Aes128;
-use refusal::Outcome;
+use refusal::Refusal;
 use std::io;
 
-fn widen(x: u8) -> u64 {
-    x as u64
-}
+// Random keys, each with a random block, from another implementation.
+const PAIRS: [([u8; 16], [u8; 16]); 8] = [
+    (
+        *b"\xf2\x5a\x35\x8a\x4b\x46\xed\x03\x40\x8b\xed\x21\x46\x36\xcf\x29",
+        *b"\xa0\xf3\x69\x05\x0c\x66\xe5\xb0\xfd\x96\x07\x30\xe2\x21\x49\x95",
+    ),
+    (
+        *b"\xb7\x2e\x07\x1e\xf1\xab\x00\x0a\xa7\x61\xdb\x94\xc6\x55\x0f\x7c",
+        *b"\x4e\x13\xbb\x74\x77\x5b\x4e\x19\x6f\x08\xa5\xef\xa4\x51\x4c\x34",
+    ),
+    (
+        *b"\x09\x4b\x8c\xf4\x81\x4c\xd5\x94\x21\xec\xd1\xd9\xe2\x67\x7f\x6a",
+        *b"\xc2\x81\x41\xce\x71\x2f\x02\x39\x96\x38\x88\xac\xf2\x8f\xd4\x9f",
+    ),
+    (
+        *b"\xa9\x79\x4b\x2b\x64\x8d\x01\x27\x16\x36\xcb\x95\x27\x60\x84\xb4",
+        *b"\xf6\x37\x71\x7d\x68\xaa\xe3\x69\x3e\xbd\x4f\x7e\x3d\x50\xd7\x8a",
+    ),
+    (
+        *b"\x07\xd6\x25\x8d\x7b\x11\x41\x4d\x6e\x4d\x40\x98\x52\x99\x93\xfc",
+        *b"\x4a\xcf\x21\x7b\x64\x6b\x42\x4c\x75\xf6\x7d\xb7\x55\x77\xc9\x13",
+    ),
+    (
+        *b"\x25\xc0\x17\x3e\xcc\xe4\x84\x6a\xc4\x5b\x56\x3d\x19\x7c\x96\x79",
+        *b"\xe4\xbb\x99\xd6\x45\xc6\xf0\x7e\xcf\x83\xe2\xa3\xa4\xb0\xa3\x5a",
+    ),
+    (
+        *b"\xa4\xcf\xe8\x30\x48\xa4\x00\x4a\x9f\x70\xfd\xcd\xe8\xe1\x23\x8b",
+        *b"\xa9\xcf\x26\x87\x7f\x3a\x4f\xbd\x14\xed\x39\xe0\x76\xc8\x7f\x52",
+    ),
+    (
+        *b"\x9c\x9e\x08\x45\xce\x25\xf4\x57\xcb\x07\xe4\xca\x5e\x21\x3a\x98",
+        *b"\x07\x41\x0b\xf9\xce\xcb\xd2\x7f\x51\x17\x5c\xae\xbc\xbe\x0f\x9b",
+    ),
+];
+
+// The key of FIPS 197, appendices A.1 and B, and of SP 800-38A, whose text and IV these are.
+const KEY: [u8; 16] = *b"\x2b\x7e\x15\x16\x28\xae\xd2\xa6\xab\xf7\x15\x88\x09\xcf\x4f\x3c";
+
+const IV: [u8; 16] = *b"\x00\x01\x02\x03\x04\x05\x06\x07\x08\x09\x0a\x0b\x0c\x0d\x0e\x0f";
+
+const TEXT: [u8; 64] = *b"\x6b\xc1\xbe\xe2\x2e\x40\x9f\x96\xe9\x3d\x7e\x11\x73\x93\x17\x2a\
+    \xae\x2d\x8a\x57\x1e\x03\xac\x9c\x9e\xb7\x6f\xac\x45\xaf\x8e\x51\
+    \x30\xc8\x1c\x46\xa3\x5c\xe4\x11\xe5\xfb\xc1\x19\x1a\x0a\x52\xef\
+    \xf6\x9f\x24\x45\xdf\x4f\x9b\x17\xad\x2b\x41\x7b\xe6\x6c\x37\x10";
 
 // The bytes in hexadecimal, as a line.
-fn show(rt: &impl Print, b: &[u8]) -> io::Result<()> {
-    for x in b {
-        print!(rt; "{:02x}", widen(*x))?;
+fn show(rt: &impl Print, s: &[u8]) -> io::Result<()> {
+    for b in s {
+        print!(rt; "{b:02x}")?;
     }
     println!(rt)
 }
 
 // The round keys, a line each.
 fn show_keys(rt: &impl Print, a: Aes128) -> io::Result<()> {
-    let w = a.keys;
-    for n in 0..11 {
-        show(rt, &w[16 * n..16 * n + 16])?;
+    for key in a.keys.chunks(16) {
+        show(rt, key)?;
     }
     Ok(())
 }
@@ -39,86 +80,39 @@ fn show_block(rt: &impl Print, key: [u8; 16], p: [u8; 16]) -> io::Result<()> {
     show(rt, &a.decrypt_block(c))
 }
 
-// A random block, each way.
-fn show_pair(rt: &impl Print, key: [u8; 16], b: [u8; 16]) -> io::Result<()> {
-    let a = Aes128::new(key);
-    show(rt, &a.encrypt_block(b))?;
-    show(rt, &a.decrypt_block(b))
+// The random blocks, each either way.
+fn show_pairs(rt: &impl Print) -> io::Result<()> {
+    for (key, b) in &PAIRS {
+        let a = Aes128::new(*key);
+        show(rt, &a.encrypt_block(*b))?;
+        show(rt, &a.decrypt_block(*b))?;
+    }
+    Ok(())
 }
 
-fn show_random_blocks(rt: &impl Print) -> io::Result<()> {
-    show_pair(
-        rt,
-        *b"\xf2\x5a\x35\x8a\x4b\x46\xed\x03\x40\x8b\xed\x21\x46\x36\xcf\x29",
-        *b"\xa0\xf3\x69\x05\x0c\x66\xe5\xb0\xfd\x96\x07\x30\xe2\x21\x49\x95",
-    )?;
-    show_pair(
-        rt,
-        *b"\xb7\x2e\x07\x1e\xf1\xab\x00\x0a\xa7\x61\xdb\x94\xc6\x55\x0f\x7c",
-        *b"\x4e\x13\xbb\x74\x77\x5b\x4e\x19\x6f\x08\xa5\xef\xa4\x51\x4c\x34",
-    )?;
-    show_pair(
-        rt,
-        *b"\x09\x4b\x8c\xf4\x81\x4c\xd5\x94\x21\xec\xd1\xd9\xe2\x67\x7f\x6a",
-        *b"\xc2\x81\x41\xce\x71\x2f\x02\x39\x96\x38\x88\xac\xf2\x8f\xd4\x9f",
-    )?;
-    show_pair(
-        rt,
-        *b"\xa9\x79\x4b\x2b\x64\x8d\x01\x27\x16\x36\xcb\x95\x27\x60\x84\xb4",
-        *b"\xf6\x37\x71\x7d\x68\xaa\xe3\x69\x3e\xbd\x4f\x7e\x3d\x50\xd7\x8a",
-    )?;
-    show_pair(
-        rt,
-        *b"\x07\xd6\x25\x8d\x7b\x11\x41\x4d\x6e\x4d\x40\x98\x52\x99\x93\xfc",
-        *b"\x4a\xcf\x21\x7b\x64\x6b\x42\x4c\x75\xf6\x7d\xb7\x55\x77\xc9\x13",
-    )?;
-    show_pair(
-        rt,
-        *b"\x25\xc0\x17\x3e\xcc\xe4\x84\x6a\xc4\x5b\x56\x3d\x19\x7c\x96\x79",
-        *b"\xe4\xbb\x99\xd6\x45\xc6\xf0\x7e\xcf\x83\xe2\xa3\xa4\xb0\xa3\x5a",
-    )?;
-    show_pair(
-        rt,
-        *b"\xa4\xcf\xe8\x30\x48\xa4\x00\x4a\x9f\x70\xfd\xcd\xe8\xe1\x23\x8b",
-        *b"\xa9\xcf\x26\x87\x7f\x3a\x4f\xbd\x14\xed\x39\xe0\x76\xc8\x7f\x52",
-    )?;
-    show_pair(
-        rt,
-        *b"\x9c\x9e\x08\x45\xce\x25\xf4\x57\xcb\x07\xe4\xca\x5e\x21\x3a\x98",
-        *b"\x07\x41\x0b\xf9\xce\xcb\xd2\x7f\x51\x17\x5c\xae\xbc\xbe\x0f\x9b",
-    )
-}
-
-// Fifty keys, each a block that was made before, there and then the other way.
-fn show_chain(rt: &impl Print) -> io::Result<()> {
-    let mut k: [u8; 16] = *b"\xf2\x5a\x35\x8a\x4b\x46\xed\x03\x40\x8b\xed\x21\x46\x36\xcf\x29";
-    let mut b: [u8; 16] = *b"\xa0\xf3\x69\x05\x0c\x66\xe5\xb0\xfd\x96\x07\x30\xe2\x21\x49\x95";
+// Fifty keys, each a block that was made before: shows the last key and the last block, and answers both.
+fn show_chain<F: Fn(Aes128, [u8; 16]) -> [u8; 16]>(
+    rt: &impl Print,
+    start: ([u8; 16], [u8; 16]),
+    cipher: F,
+) -> io::Result<([u8; 16], [u8; 16])>
+    requires { F.IsAlwaysCallable cipher }
+{
+    let (mut k, mut b) = start;
     for _ in 0..50 {
-        let c = Aes128::new(k).encrypt_block(b);
+        let c = cipher(Aes128::new(k), b);
         k = b;
         b = c;
     }
     show(rt, &k)?;
     show(rt, &b)?;
-    show_unchain(rt, k, b)
+    Ok((k, b))
 }
 
-fn show_unchain(rt: &impl Print, k0: [u8; 16], b0: [u8; 16]) -> io::Result<()> {
-    let mut k = k0;
-    let mut b = b0;
-    for _ in 0..50 {
-        let c = Aes128::new(k).decrypt_block(b);
-        k = b;
-        b = c;
-    }
-    show(rt, &k)?;
-    show(rt, &b)
-}
-
-fn tell(rt: &impl Print, r: Outcome) -> io::Result<()> {
+fn tell(rt: &impl Print, r: Result<(), Refusal>) -> io::Result<()> {
     match r {
-        Outcome::Done => println!(rt; "done"),
-        Outcome::Refused(e) => println!(rt; "refused {}", widen(e.number())),
+        Ok(()) => println!(rt; "done"),
+        Err(e) => println!(rt; "refused {}", e.number()),
     }
 }
 
@@ -127,8 +121,7 @@ fn show_end(rt: &impl Print, s: &[u8]) -> io::Result<()> {
     if s.len() <= 272 {
         show(rt, s)
     } else {
-        let a = s.len() - 16;
-        show(rt, &s[a..])
+        show(rt, &s[s.len() - 16..])
     }
 }
 
@@ -147,15 +140,15 @@ fn hand_on(iv: [u8; 16], c: &[u8]) -> [u8; 16]
     if c.len() == 0 {
         return iv;
     }
-    octets::block(c, c.len() - 16)
+    octets::cut(c, c.len() - 16)
 }
 
-// One go over whole blocks, and the IV of the next: the cipher text is what the go makes.
+// One go over whole blocks, which are never refused, and the IV of the next: the cipher text is what the go makes.
 fn encrypt_and_hand_on(key: [u8; 16], iv: [u8; 16], s: &mut [u8]) -> [u8; 16]
     requires { length s.old % 16 ≡ 0 }
     ensures { Went (cbc_encrypt key) (after_encrypt key) iv s.old result s.new }
 {
-    cbc::cbc_encrypt(key, iv, s);
+    let _ = cbc::cbc_encrypt(key, iv, s);
     hand_on(iv, s)
 }
 
@@ -165,7 +158,7 @@ fn decrypt_and_hand_on(key: [u8; 16], iv: [u8; 16], s: &mut [u8]) -> [u8; 16]
     ensures { Went (cbc_decrypt key) (after_decrypt key) iv s.old result s.new }
 {
     let next = hand_on(iv, s);
-    cbc::cbc_decrypt(key, iv, s);
+    let _ = cbc::cbc_decrypt(key, iv, s);
     next
 }
 
@@ -175,7 +168,7 @@ fn encrypt_in_two(key: [u8; 16], iv: [u8; 16], k: usize, s: &mut [u8])
     ensures { s.new ≡ cbc_encrypt key iv s.old }
 {
     let next = encrypt_and_hand_on(key, iv, &mut s[..k]);
-    cbc::cbc_encrypt(key, next, &mut s[k..]);
+    let _ = cbc::cbc_encrypt(key, next, &mut s[k..]);
 }
 
 fn decrypt_in_two(key: [u8; 16], iv: [u8; 16], k: usize, s: &mut [u8])
@@ -183,7 +176,7 @@ fn decrypt_in_two(key: [u8; 16], iv: [u8; 16], k: usize, s: &mut [u8])
     ensures { s.new ≡ cbc_decrypt key iv s.old }
 {
     let next = decrypt_and_hand_on(key, iv, &mut s[..k]);
-    cbc::cbc_decrypt(key, next, &mut s[k..]);
+    let _ = cbc::cbc_decrypt(key, next, &mut s[k..]);
 }
 
 fn show_in_two(
@@ -211,8 +204,8 @@ fn show_halves(rt: &impl Print, key: [u8; 16], iv: [u8; 16], text: [u8; 64]) -> 
 }
 
 fn fill(s: &mut [u8]) {
-    for i in 0..s.len() {
-        s[i] = ((i % 256 * 7 + i / 256 % 256) % 256) as u8;
+    for (i, x) in s.iter_mut().enumerate() {
+        *x = ((i % 256 * 7 + i / 256 % 256) % 256) as u8;
     }
 }
 
@@ -237,11 +230,10 @@ fn run_all(rt: &impl Print) -> io::Result<()> {
 }
 
 fn main(rt: HostRuntime) -> io::Result<()> {
-    let key: [u8; 16] = *b"\x2b\x7e\x15\x16\x28\xae\xd2\xa6\xab\xf7\x15\x88\x09\xcf\x4f\x3c";
-    show_keys(&rt, Aes128::new(key))?;
+    show_keys(&rt, Aes128::new(KEY))?;
     show_block(
         &rt,
-        key,
+        KEY,
         *b"\x32\x43\xf6\xa8\x88\x5a\x30\x8d\x31\x31\x98\xa2\xe0\x37\x07\x34",
     )?;
     show_block(
@@ -249,14 +241,11 @@ fn main(rt: HostRuntime) -> io::Result<()> {
         *b"\x00\x01\x02\x03\x04\x05\x06\x07\x08\x09\x0a\x0b\x0c\x0d\x0e\x0f",
         *b"\x00\x11\x22\x33\x44\x55\x66\x77\x88\x99\xaa\xbb\xcc\xdd\xee\xff",
     )?;
-    show_random_blocks(&rt)?;
-    show_chain(&rt)?;
-    let mut s: [u8; 64] = *b"\x6b\xc1\xbe\xe2\x2e\x40\x9f\x96\xe9\x3d\x7e\x11\x73\x93\x17\x2a\
-        \xae\x2d\x8a\x57\x1e\x03\xac\x9c\x9e\xb7\x6f\xac\x45\xaf\x8e\x51\
-        \x30\xc8\x1c\x46\xa3\x5c\xe4\x11\xe5\xfb\xc1\x19\x1a\x0a\x52\xef\
-        \xf6\x9f\x24\x45\xdf\x4f\x9b\x17\xad\x2b\x41\x7b\xe6\x6c\x37\x10";
-    let iv: [u8; 16] = *b"\x00\x01\x02\x03\x04\x05\x06\x07\x08\x09\x0a\x0b\x0c\x0d\x0e\x0f";
-    go_there_and_back(&rt, key, iv, &mut s)?;
-    show_halves(&rt, key, iv, s)?;
+    show_pairs(&rt)?;
+    let end = show_chain(&rt, PAIRS[0], Aes128::encrypt_block)?;
+    show_chain(&rt, end, Aes128::decrypt_block)?;
+    let mut s = TEXT;
+    go_there_and_back(&rt, KEY, IV, &mut s)?;
+    show_halves(&rt, KEY, IV, s)?;
     run_all(&rt)
 }

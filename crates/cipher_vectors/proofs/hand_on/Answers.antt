@@ -12,4 +12,4 @@ returns c =
     let l = c.args.c.now in
     let h : 16 ≤ length l = omega arith in
     let g : length l - 16 + 16 ≤ length l = omega arith in
-    c.block.ensures ∙ filled-part 16 l (length l - 16) g ∙ handed_part c.args.iv l h
+    c.cut.ensures ∙ filled-part 16 l (length l - 16) g ∙ handed_part c.args.iv l h

@@ -143,6 +143,9 @@ fn hand_on(iv: [u8; 16], c: &[u8]) -> [u8; 16]
     octets::cut(c, c.len() - 16)
 }
 
+// The two ways stay two functions each: the block is handed on behind the one call and before the other, and one function over both would
+// have to say of what it calls, in a `requires`, what these contracts say.
+
 // One go over whole blocks, which are never refused, and the IV of the next: the cipher text is what the go makes.
 fn encrypt_and_hand_on(key: [u8; 16], iv: [u8; 16], s: &mut [u8]) -> [u8; 16]
     requires { length s.old % 16 ≡ 0 }

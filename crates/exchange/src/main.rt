@@ -58,29 +58,24 @@ const USER: Named = Named {
     len: 9,
 };
 
-// The first `n` bytes of what was written, where there are as many.
-fn print_first(rt: &impl Print, out: &[u8], n: usize) -> io::Result<()> {
-    if n <= out.len() {
-        rt.write_all(&out[..n])?;
-    }
-    Ok(())
-}
-
 fn print_line(rt: &impl Print, label: &[u8], s: &[u8]) -> io::Result<()> {
     let mut out = [0u8; 512];
     let start = Cursor { at: 0, full: false };
     let a = text::add(&mut out, start, label);
     let b = text::hex(&mut out, a, s);
     let c = text::add(&mut out, b, b"\n");
-    print_first(rt, &out, c.at)
+    match out.get(..c.at) {
+        Some(line) => rt.write_all(line),
+        None => Ok(()),
+    }
 }
 
 // A line of the message of `n` bytes at the start of `out`, where there are as many.
 fn print_message(rt: &impl Print, label: &[u8], n: usize, out: &[u8]) -> io::Result<()> {
-    if n <= out.len() {
-        print_line(rt, label, &out[..n])?;
+    match out.get(..n) {
+        Some(message) => print_line(rt, label, message),
+        None => Ok(()),
     }
-    Ok(())
 }
 
 // A line of a refusal's number.
@@ -127,10 +122,10 @@ fn print_payload(
     len: usize,
 ) -> io::Result<()> {
     let encrypted = frame::encrypts(session.confidentiality);
-    if 4 <= datagram.len() {
-        print_line(rt, label, frame::payload(&datagram[4..], encrypted, len))?;
+    match datagram.get(4..) {
+        Some(packet) => print_line(rt, label, frame::payload(packet, encrypted, len)),
+        None => Ok(()),
     }
-    Ok(())
 }
 
 // What the system reads of a datagram.

@@ -5,7 +5,8 @@ use refusal::Refusal;
 use std::io;
 use text::Cursor;
 
-// The output that waits, and where its next byte goes.
+// The output that waits, and where its next byte goes. The buffers for a line's bytes and for a room stay parameters beside it: of a struct
+// behind a reference only one field is lent at a time.
 #[derive(Drop)]
 pub struct Answer<'a> {
     pub out: &'a mut [u8],

@@ -1,5 +1,10 @@
-// What is lent to a call as its output, and what the call leaves there.
-use refusal::Outcome;
+// What is lent to a call: its input, out of the buffer that holds the bytes of a line's fields, and its output.
+use cases::{Span, pick_part};
+
+// The bytes of a field.
+pub fn pick_span(buf: &[u8], p: Span) -> &[u8] {
+    pick_part(buf, p.from, p.to)
+}
 
 // The first n bytes; none where there are fewer.
 pub fn lend_part(s: &mut [u8], n: usize) -> &mut [u8] {
@@ -14,12 +19,4 @@ pub fn lend_part(s: &mut [u8], n: usize) -> &mut [u8] {
 pub fn lend_room(room: &mut [u8], n: usize) -> &mut [u8] {
     cases::fill_room(room, n);
     lend_part(room, n)
-}
-
-// What a writer answered to the fields of a line, and how many bytes it wrote.
-#[derive(Clone, Copy)]
-pub struct Draft {
-    pub bad: bool,
-    pub answer: Outcome,
-    pub len: usize,
 }

@@ -1,159 +1,64 @@
 // The case of the four steps, one after the other.
+use crate::answer::Answer;
 use crate::calls;
-use crate::calls::{Call, Called, Plan};
-use crate::say::say_keys;
+use crate::calls::Call;
 use cases::pick_part;
-use frame::{Confidentiality, Integrity, SubState};
-use refusal::{Outcome, Refusal};
-use session::{Record, Stepped};
-use text::Cursor;
+use frame::SubState;
 
-fn say_end(out: &mut [u8], c: Cursor, r: Refusal) -> Cursor {
-    let c = text::add(out, c, b" ");
-    cases::say_refusal(out, c, r)
-}
+// `steps KG LEVEL NAME PASSWORD OWNID RM OPENED M2 M4 [LOOKUP]`: Begin, the Open Session Response, Message 2 and Message 4.
+const STEPS: [Call; 4] = [
+    Call::Begin {
+        own: 5,
+        level: 2,
+        name: 3,
+        lookup: 10,
+    },
+    Call::Open { opened: 7, rm: 6 },
+    Call::M2 {
+        kg: 1,
+        password: 4,
+        message: 8,
+    },
+    Call::M4 { message: 9 },
+];
 
 // What the session is.
-fn say_session(out: &mut [u8], c: Cursor, s: SubState) -> Cursor {
-    let k = s.keys;
-    let conf = s.confidentiality;
-    let integ = s.integrity;
-    let c = cases::say_number(out, c, b" ok conf ", code_confidentiality(conf));
-    let c = cases::say_number(out, c, b" integ ", code_integrity(integ));
-    let c = text::add(out, c, b" ");
-    say_keys(out, c, k)
-}
-
-fn code_confidentiality(x: Confidentiality) -> u32 {
-    match x {
-        Confidentiality::None => 0,
-        Confidentiality::AesCbc128 => 1,
-    }
-}
-
-fn code_integrity(x: Integrity) -> u32 {
-    match x {
-        Integrity::None => 0,
-        Integrity::HmacSha1_96 => 1,
-    }
+fn say_session(a: &mut Answer, s: SubState) {
+    a.say_number(b" ok conf ", s.confidentiality as u32);
+    a.say_number(b" integ ", s.integrity as u32);
+    a.say(b" ");
+    a.say_keys(s.keys);
 }
 
 // The message that a step wrote; the first is told even where there is none.
-fn say_sent(out: &mut [u8], c: Cursor, step: usize, message: &[u8]) -> Cursor {
+fn say_sent(a: &mut Answer, step: usize, message: &[u8]) {
     if step == 0 {
-        return cases::say_bytes(out, c, b"sent ", message);
-    }
-    if message.len() == 0 {
-        return c;
-    }
-    cases::say_bytes(out, c, b",", message)
-}
-
-// What a step has to tell, if none before it was refused.
-fn say_step(out: &mut [u8], s: Stage, step: usize, d: Stepped, room: &[u8]) -> Cursor {
-    let c = s.told;
-    if s.over {
-        return c;
-    }
-    let c = say_sent(out, c, step, pick_part(room, 0, d.len));
-    let a = d.answer;
-    match a {
-        Outcome::Done => c,
-        Outcome::Refused(r) => say_end(out, c, r),
+        a.say_bytes(b"sent ", message);
+    } else if !message.is_empty() {
+        a.say_bytes(b",", message);
     }
 }
 
-// Where the steps stand: over once one was refused. Those after it only show whether the line is bad.
-#[derive(Clone, Copy)]
-struct Stage {
-    state: Record,
-    told: Cursor,
-    over: bool,
-    bad: bool,
-}
-
-fn is_refused(d: Stepped) -> bool {
-    let a = d.answer;
-    match a {
-        Outcome::Done => false,
-        Outcome::Refused(_) => true,
+// What the steps have to tell until one is refused. Those after it only show whether the line is bad.
+pub fn tell_steps(line: &[u8], buf: &mut [u8], a: &mut Answer) -> Option<()> {
+    let mut state = calls::make_closed();
+    let mut over = false;
+    for (step, call) in STEPS.iter().enumerate() {
+        let mut room = [0u8; 64];
+        let s = calls::make_call(line, *call, state, buf, &mut room)?;
+        state = s.state;
+        if over {
+            continue;
+        }
+        say_sent(a, step, pick_part(&room, 0, s.len));
+        if let Err(r) = s.answer {
+            a.say(b" ");
+            a.say_refusal(r);
+            over = true;
+        }
     }
-}
-
-// `steps KG LEVEL NAME PASSWORD OWNID RM OPENED M2 M4 [LOOKUP]`: Begin, the Open Session Response, Message 2 and Message 4.
-fn plan_step(step: usize) -> Plan {
-    match step {
-        0 => Plan {
-            call: Call::Begin,
-            a: 5,
-            b: 2,
-            c: 3,
-            d: 10,
-        },
-        1 => Plan {
-            call: Call::Open,
-            a: 7,
-            b: 6,
-            c: 0,
-            d: 0,
-        },
-        2 => Plan {
-            call: Call::M2,
-            a: 1,
-            b: 4,
-            c: 8,
-            d: 0,
-        },
-        _ => Plan {
-            call: Call::M4,
-            a: 9,
-            b: 0,
-            c: 0,
-            d: 0,
-        },
+    if !over && let Ok(s) = session::sub_state(state) {
+        say_session(a, s);
     }
-}
-
-fn add_step(s: Stage, r: Called, told: Cursor) -> Stage {
-    let d = r.step;
-    let state = d.state;
-    Stage {
-        state,
-        told,
-        over: s.over | is_refused(d),
-        bad: s.bad | r.bad,
-    }
-}
-
-fn take_step(line: &[u8], step: usize, s: Stage, buf: &mut [u8], out: &mut [u8]) -> Stage {
-    let mut room = [0u8; 64];
-    let r = calls::make_call(line, plan_step(step), s.state, buf, &mut room);
-    let c = say_step(out, s, step, r.step, &room);
-    add_step(s, r, c)
-}
-
-fn take_steps(line: &[u8], buf: &mut [u8], out: &mut [u8], c: Cursor) -> Stage {
-    let mut s = Stage {
-        state: calls::make_closed(),
-        told: c,
-        over: false,
-        bad: false,
-    };
-    for k in 0..4 {
-        s = take_step(line, k, s, buf, out);
-    }
-    s
-}
-
-pub fn tell_steps(line: &[u8], buf: &mut [u8], out: &mut [u8], c: Cursor) -> Cursor {
-    let s = take_steps(line, buf, out, c);
-    if s.bad {
-        return c;
-    }
-    let told = s.told;
-    if s.over {
-        return told;
-    }
-    let e = session::sub_state(s.state);
-    say_session(out, told, e.session)
+    Some(())
 }

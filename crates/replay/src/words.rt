@@ -1,163 +1,139 @@
 // Which case a line is.
+use crate::answer::Answer;
 use crate::hashes::Summing;
 use crate::message_readers::Received;
 use crate::writers::Writer;
 use crate::{arriving, ciphers, frames, hashes, message_readers, script, steps, writers};
-use text::Cursor;
+use aes::Aes128;
 
-// The cases, by what their answers need; what is in one tells the words of one shape apart.
+// Where a packet begins in a datagram.
+const BEHIND: usize = suite::OUTER.len();
+
 #[derive(Clone, Copy)]
 enum Case {
-    Short(Short),
-    Read(bool),
-    Once(bool),
-    Write(Writer),
-    Steps,
-    Script,
-    Bad,
-}
-
-// The cases that are one call of the hash, the cipher, or the reader of a block or a message, or that take numbers of packets.
-#[derive(Clone, Copy)]
-enum Short {
     Hash(Summing),
-    Block(bool),
-    Cbc(bool),
+    Encrypt,
+    Decrypt,
+    CbcEncrypt,
+    CbcDecrypt,
     Keys,
+    Block,
     Received(Received),
     Arrive,
     Arrivals,
+    Read,
+    Datagram,
+    Once,
+    OnceDatagram,
+    Write(Writer),
+    Steps,
+    Script,
 }
 
-// How many fields a line has that begins with the word at k, by which the words are in order; any number from 25 on.
-fn count_fields(k: usize, n: usize) -> usize {
-    if k < 6 {
-        return 2;
-    }
-    if k < 11 {
-        return 3;
-    }
-    if k < 15 {
-        return 4;
-    }
-    if k < 18 {
-        return 5;
-    }
-    if k < 25 { count_more(k, n) } else { n }
+// A case, and how many fields its line has at least and at most.
+#[derive(Clone, Copy)]
+struct Form {
+    case: Case,
+    least: usize,
+    most: usize,
 }
 
-// The same of a word from 18 on that has more than five.
-fn count_more(k: usize, n: usize) -> usize {
-    if k < 21 {
-        return 7;
-    }
-    if k < 22 {
-        return 8;
-    }
-    if k < 24 { 10 } else { count_steps(n) }
-}
-
-// The last of these, `steps`, may have a field more.
-fn count_steps(n: usize) -> usize {
-    if n == 11 { 11 } else { 10 }
-}
-
-// The case of the word at k.
-fn name_case(k: usize) -> Case {
-    match k {
-        0 => Case::Short(Short::Hash(Summing::Sha1)),
-        1 => Case::Short(Short::Keys),
-        2 => Case::Short(Short::Received(Received::Block)),
-        3 => Case::Short(Short::Received(Received::Opened)),
-        4 => Case::Short(Short::Received(Received::Rakp2)),
-        5 => Case::Short(Short::Received(Received::Rakp4)),
-        6 => Case::Short(Short::Hash(Summing::Hmac)),
-        7 => Case::Short(Short::Hash(Summing::Zeros)),
-        8 => Case::Short(Short::Hash(Summing::HmacZeros)),
-        9 => Case::Short(Short::Block(false)),
-        10 => Case::Short(Short::Block(true)),
-        11 => Case::Short(Short::Cbc(false)),
-        12 => Case::Short(Short::Cbc(true)),
-        13 => Case::Write(Writer::Decline),
-        14 => Case::Short(Short::Arrive),
-        15 => Case::Read(false),
-        16 => Case::Read(true),
-        17 => Case::Write(Writer::Rakp3),
-        18 => Case::Write(Writer::Rakp1),
-        19 => Case::Once(false),
-        20 => Case::Once(true),
-        21 => Case::Write(Writer::OpenRequest),
-        22 => Case::Write(Writer::Packet(false)),
-        23 => Case::Write(Writer::Packet(true)),
-        24 => Case::Steps,
-        25 => Case::Short(Short::Hash(Summing::Pieces)),
-        26 => Case::Short(Short::Arrivals),
-        27 => Case::Script,
-        _ => Case::Bad,
+fn make_form(case: Case, fields: usize) -> Form {
+    Form {
+        case,
+        least: fields,
+        most: fields,
     }
 }
 
-// Which word the line begins with.
-fn find_word(line: &[u8]) -> usize {
-    let words =
-        b"sha1 keys block opened rakp2 rakp4 hmac zeros hmac-zeros encrypt decrypt cbc-encrypt cbc-decrypt decline arrive \
-        read datagram rakp3 rakp1 once once-datagram open-request write wrap steps pieces arrivals script";
-    cases::look_up(words, cases::pick_field(line, 0))
+fn make_open(case: Case, least: usize) -> Form {
+    Form {
+        case,
+        least,
+        most: usize::MAX,
+    }
 }
 
-fn find_case(line: &[u8]) -> Case {
-    let k = find_word(line);
+// The form of a case by its word.
+fn find_form(word: &[u8]) -> Option<Form> {
+    Some(match word {
+        b"sha1" => make_form(Case::Hash(Summing::Data), 2),
+        b"keys" => make_form(Case::Keys, 2),
+        b"block" => make_form(Case::Block, 2),
+        b"opened" => make_form(Case::Received(Received::Opened), 2),
+        b"rakp2" => make_form(Case::Received(Received::Rakp2), 2),
+        b"rakp4" => make_form(Case::Received(Received::Rakp4), 2),
+        b"hmac" => make_form(Case::Hash(Summing::Coded), 3),
+        b"zeros" => make_form(Case::Hash(Summing::Zeros), 3),
+        b"hmac-zeros" => make_form(Case::Hash(Summing::CodedZeros), 3),
+        b"encrypt" => make_form(Case::Encrypt, 3),
+        b"decrypt" => make_form(Case::Decrypt, 3),
+        b"cbc-encrypt" => make_form(Case::CbcEncrypt, 4),
+        b"cbc-decrypt" => make_form(Case::CbcDecrypt, 4),
+        b"decline" => make_form(Case::Write(Writer::Decline), 4),
+        b"arrive" => make_form(Case::Arrive, 4),
+        b"read" => make_form(Case::Read, 5),
+        b"datagram" => make_form(Case::Datagram, 5),
+        b"rakp3" => make_form(Case::Write(Writer::Rakp3), 5),
+        b"rakp1" => make_form(Case::Write(Writer::Rakp1), 7),
+        b"once" => make_form(Case::Once, 7),
+        b"once-datagram" => make_form(Case::OnceDatagram, 7),
+        b"open-request" => make_form(Case::Write(Writer::OpenRequest), 8),
+        b"write" => make_form(Case::Write(Writer::Packet), 10),
+        b"wrap" => make_form(Case::Write(Writer::Datagram), 10),
+        b"steps" => Form {
+            case: Case::Steps,
+            least: 10,
+            most: 11,
+        },
+        b"pieces" => make_open(Case::Hash(Summing::Pieces), 2),
+        b"arrivals" => make_open(Case::Arrivals, 2),
+        b"script" => make_open(Case::Script, 1),
+        _ => return None,
+    })
+}
+
+// The case of a line, if it has as many fields as that asks for.
+fn find_case(line: &[u8]) -> Option<Case> {
+    let form = find_form(cases::pick_field(line, 0))?;
     let n = text::fields(line, b' ');
-    if count_fields(k, n) == n {
-        name_case(k)
-    } else {
-        Case::Bad
+    if n < form.least || form.most < n {
+        return None;
+    }
+    Some(form.case)
+}
+
+// Tells what a line asks for; None where it is bad.
+fn tell_case(line: &[u8], buf: &mut [u8], room: &mut [u8], a: &mut Answer) -> Option<()> {
+    match find_case(line)? {
+        Case::Hash(which) => hashes::tell_hash(line, which, buf, a),
+        Case::Encrypt => ciphers::tell_block(line, Aes128::encrypt_block, a),
+        Case::Decrypt => ciphers::tell_block(line, Aes128::decrypt_block, a),
+        Case::CbcEncrypt => ciphers::tell_cbc(line, cbc::cbc_encrypt, buf, a),
+        Case::CbcDecrypt => ciphers::tell_cbc(line, cbc::cbc_decrypt, buf, a),
+        Case::Keys => ciphers::tell_keys(line, a),
+        Case::Block => message_readers::tell_block(line, a),
+        Case::Received(which) => message_readers::tell_received(line, which, buf, a),
+        Case::Arrive => arriving::tell_arrive(line, a),
+        Case::Arrivals => arriving::tell_arrivals(line, a),
+        Case::Read => frames::tell_read(line, 0, |s, p| frame::read_payload(s, p), buf, a),
+        Case::Datagram => {
+            frames::tell_read(line, BEHIND, |s, p| frame::read_datagram(s, p), buf, a)
+        }
+        Case::Once => arriving::tell_once(line, 0, once::read_payload, buf, a),
+        Case::OnceDatagram => arriving::tell_once(line, BEHIND, once::read_datagram, buf, a),
+        Case::Write(which) => writers::tell_written(line, which, buf, room, a),
+        Case::Steps => steps::tell_steps(line, buf, a),
+        Case::Script => script::tell_script(line, buf, room, a),
     }
 }
 
-// As below, of a short case.
-fn tell_short(line: &[u8], which: Short, buf: &mut [u8], out: &mut [u8], c: Cursor) -> Cursor {
-    match which {
-        Short::Hash(which) => hashes::tell_hash(line, which, buf, out, c),
-        Short::Block(decrypts) => ciphers::tell_block(line, decrypts, out, c),
-        Short::Cbc(decrypts) => ciphers::tell_cbc(line, decrypts, buf, out, c),
-        Short::Keys => ciphers::tell_keys(line, out, c),
-        Short::Received(which) => message_readers::tell_received(line, which, buf, out, c),
-        Short::Arrive => arriving::tell_arrive(line, out, c),
-        Short::Arrivals => arriving::tell_arrivals(line, out, c),
+// The answer to one line, after what waits. A line that turns out to be bad takes back what it told before.
+pub fn answer_line(line: &[u8], buf: &mut [u8], room: &mut [u8], a: &mut Answer) {
+    let start = a.end;
+    if tell_case(line, buf, room, a).is_none() {
+        a.end = start;
+        a.say(b"bad line");
     }
-}
-
-// Tells nothing of a bad line.
-fn tell_case(line: &[u8], buf: &mut [u8], room: &mut [u8], out: &mut [u8], c: Cursor) -> Cursor {
-    match find_case(line) {
-        Case::Short(which) => tell_short(line, which, buf, out, c),
-        Case::Read(outer) => frames::tell_read(line, outer, buf, out, c),
-        Case::Once(outer) => arriving::tell_once(line, outer, buf, out, c),
-        Case::Write(which) => writers::tell_written(line, which, buf, room, out, c),
-        Case::Steps => steps::tell_steps(line, buf, out, c),
-        Case::Script => script::tell_script(line, buf, room, out, c),
-        Case::Bad => c,
-    }
-}
-
-// Ends the line of an answer that was told from c on; where nothing was, the line is bad.
-fn end_line(out: &mut [u8], c: Cursor, told: Cursor) -> Cursor {
-    if told.at == c.at {
-        return text::add(out, c, b"bad line\n");
-    }
-    text::add(out, told, b"\n")
-}
-
-// The answer to one line, after what waits.
-pub fn answer_line(
-    line: &[u8],
-    buf: &mut [u8],
-    room: &mut [u8],
-    out: &mut [u8],
-    at: usize,
-) -> Cursor {
-    let c = Cursor { at, full: false };
-    let told = tell_case(line, buf, room, out, c);
-    end_line(out, c, told)
+    a.say(b"\n");
 }

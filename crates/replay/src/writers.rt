@@ -1,14 +1,14 @@
 // The cases of the calls that write into a room, each alone.
-use crate::lent::{Draft, lend_room};
-use crate::say::say_output;
+use crate::answer::Answer;
+use crate::lent::lend_room;
 use crate::{frames, message_writers};
-use refusal::Outcome;
-use text::Cursor;
+use refusal::Refusal;
 
-// What is written; a packet, or a datagram.
+// What is written.
 #[derive(Clone, Copy)]
 pub enum Writer {
-    Packet(bool),
+    Packet,
+    Datagram,
     OpenRequest,
     Rakp1,
     Rakp3,
@@ -18,7 +18,7 @@ pub enum Writer {
 // Which field of a line is the room.
 fn find_room(which: Writer) -> usize {
     match which {
-        Writer::Packet(_) => 8,
+        Writer::Packet | Writer::Datagram => 8,
         Writer::OpenRequest => 7,
         Writer::Rakp1 => 6,
         Writer::Rakp3 => 4,
@@ -26,35 +26,19 @@ fn find_room(which: Writer) -> usize {
     }
 }
 
-fn write_into(line: &[u8], which: Writer, buf: &mut [u8], room: &mut [u8]) -> Draft {
+fn write_into(
+    line: &[u8],
+    which: Writer,
+    buf: &mut [u8],
+    room: &mut [u8],
+) -> Option<Result<usize, Refusal>> {
     match which {
-        Writer::Packet(outer) => frames::write_line(line, outer, buf, room),
+        Writer::Packet => frames::write_line(line, frame::write_payload, buf, room),
+        Writer::Datagram => frames::write_line(line, frame::write_datagram, buf, room),
         Writer::OpenRequest => message_writers::write_request(line, room),
         Writer::Rakp1 => message_writers::write_message1(line, buf, room),
         Writer::Rakp3 => message_writers::write_message3(line, buf, room),
         Writer::Decline => message_writers::write_declining(line, room),
-    }
-}
-
-// What was written, in how much room.
-#[derive(Clone, Copy)]
-struct Output {
-    bad: bool,
-    answer: Outcome,
-    len: usize,
-    room: usize,
-}
-
-fn write_line(line: &[u8], which: Writer, buf: &mut [u8], room: &mut [u8]) -> Output {
-    let size = cases::read_room(line, find_room(which));
-    let n = size.n as usize;
-    let d = write_into(line, which, buf, lend_room(room, n));
-    let a = d.answer;
-    Output {
-        bad: size.bad | d.bad,
-        answer: a,
-        len: d.len,
-        room: n,
     }
 }
 
@@ -64,13 +48,11 @@ pub fn tell_written(
     which: Writer,
     buf: &mut [u8],
     room: &mut [u8],
-    out: &mut [u8],
-    c: Cursor,
-) -> Cursor {
-    let w = write_line(line, which, buf, room);
-    if w.bad {
-        return c;
-    }
-    let a = w.answer;
-    say_output(a, w.len, room, w.room, out, c)
+    a: &mut Answer,
+) -> Option<()> {
+    let size = cases::read_room(line, find_room(which))?;
+    let room = lend_room(room, size as usize);
+    let written = write_into(line, which, buf, room)?;
+    a.say_output(written.map(|_| ()), written.unwrap_or(0), room);
+    Some(())
 }

@@ -48,13 +48,6 @@ pub enum Refusal {
     UsernameTooLong,
 }
 
-// Whether a call did what it was asked to, and if not, why.
-#[derive(Clone, Copy)]
-pub enum Outcome {
-    Done,
-    Refused(Refusal),
-}
-
 impl Refusal {
     // The number that operators know the refusal by. No discriminants: a case that carries a byte has none to cast.
     pub fn number(self) -> u8

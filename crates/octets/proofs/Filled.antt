@@ -40,10 +40,3 @@ put_filled n s r x p h =
     put_done (replicate n 0) 0 s r x p (omega (arith, length-replicate {A = ℕ} n 0))
     ∙ begun_first s (replicate n 0)
     ∙ ap (λ (m : List ℕ). s ++ m) (drop-replicate (length s) n 0)
-
--- a part that is put at the start of zeros, with what is known of its length k
-pub put_part : (n k : ℕ) (l : List ℕ) (a : ℕ) (r : Bool) (x : List ℕ) → PutPromise (replicate n 0) 0 (part l a k) r x
-    → k ≤ length l - a → part l a k ≡ part l a n → k ≤ n → x ≡ filled n (part l a n)
-put_part n k l a r x p h e g =
-    let m : length (part l a k) ≡ k = length-take-le k (drop a l) (omega (arith, length-drop a l)) in
-    put_filled n (part l a k) r x p (omega arith) ∙ ap (filled n) e

@@ -5,15 +5,10 @@ use mathlib.Core.Bool.{Bool}
 use mathlib.Core.List.{List}
 use mathlib.Core.Path.{◌≡◌, sym, ◌∙◌}
 use Rattle.octets.specs.Promise.{PutPromise}
-use Rattle.octets.proofs.le2.Reads as le2-reads
-use Rattle.octets.proofs.le4.Reads as le4-reads
-use Rattle.octets.proofs.be4.Reads as be4-reads
-use Rattle.octets.proofs.be8.Reads as be8-reads
 use Rattle.octets.proofs.load_le2.Reads as load-le2-reads
 use Rattle.octets.proofs.load_le4.Reads as load-le4-reads
 use Rattle.octets.proofs.put.Reads as put-reads
 use Rattle.octets.proofs.same.Reads as same-reads
-use Rattle.octets.proofs.block.Reads as block-reads
 use Rattle.octets.proofs.le.Reads as le-reads
 use Rattle.octets.proofs.be.Reads as be-reads
 use Rattle.octets.proofs.cut.Reads as cut-reads
@@ -30,18 +25,6 @@ pub cut_only : (n : ℕ) (f : _) (κs : _) (args : _) (a b : _) (s t : _)
     → cut-reads.Post n f κs args a s → cut-reads.Post n f κs args b t → a ≡ b
 cut_only n f κs args a b s t p q = p ∙ sym q
 
-pub le2_only : (κs : _) (args : _) (a b : _) (s t : _) → le2-reads.Post κs args a s → le2-reads.Post κs args b t → a ≡ b
-le2_only κs args a b s t p q = p ∙ sym q
-
-pub le4_only : (κs : _) (args : _) (a b : _) (s t : _) → le4-reads.Post κs args a s → le4-reads.Post κs args b t → a ≡ b
-le4_only κs args a b s t p q = p ∙ sym q
-
-pub be4_only : (κs : _) (args : _) (a b : _) (s t : _) → be4-reads.Post κs args a s → be4-reads.Post κs args b t → a ≡ b
-be4_only κs args a b s t p q = p ∙ sym q
-
-pub be8_only : (κs : _) (args : _) (a b : _) (s t : _) → be8-reads.Post κs args a s → be8-reads.Post κs args b t → a ≡ b
-be8_only κs args a b s t p q = p ∙ sym q
-
 pub load_le2_only : (κs : _) (args : _) (a b : _) (s t : _)
     → load-le2-reads.Post κs args a s → load-le2-reads.Post κs args b t → a ≡ b
 load_le2_only κs args a b s t p q = p ∙ sym q
@@ -52,9 +35,6 @@ load_le4_only κs args a b s t p q = p ∙ sym q
 
 pub same_only : (κs : _) (args : _) (a b : _) (s t : _) → same-reads.Post κs args a s → same-reads.Post κs args b t → a ≡ b
 same_only κs args a b s t p q = p ∙ sym q
-
-pub block_only : (κs : _) (args : _) (a b : _) (s t : _) → block-reads.Post κs args a s → block-reads.Post κs args b t → a ≡ b
-block_only κs args a b s t p q = p ∙ sym q
 
 promise_only : (d : List ℕ) (n : ℕ) (m : List ℕ) (a b : Bool) (x y : List ℕ)
     → PutPromise d n m a x → PutPromise d n m b y → (a ≡ b) × (x ≡ y)

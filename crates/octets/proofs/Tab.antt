@@ -36,10 +36,10 @@ module _ {F : Type 0} (g : Mut F (ℕ × Unit {0}) ℕ) (f : F) (v : ℕ → ℕ
   made s a (suc n) p e (q, y, at, called, rest) k l =
       let t = pure a y q (subst (λ (z : F). Called g z (a, tt) y q) e called) in
       elim k as (λ (j : ℕ). j < suc n → get_or s (a + j) 0 ≡ v (a + j)) [
-        zero ↦ λ _. let z : a + 0 ≡ a = omega arith in rw z (at.1 0 ∙ t.1)
+        | zero ↦ λ _. let z : a + 0 ≡ a = omega arith in rw z (at.1 0 ∙ t.1)
         | suc j ↦ λ m.
-          let z : a + suc j ≡ a + 1 + j = omega arith in
-          rw z (made s (a + 1) n q t.0 rest j (omega arith))
+            let z : a + suc j ≡ a + 1 + j = omega arith in
+            rw z (made s (a + 1) n q t.0 rest j (omega arith))
       ] l
 
   pub tab_made : (s : List ℕ) (n : ℕ) → IsFromFnResult g f s n → s ≡ tab n v

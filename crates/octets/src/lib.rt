@@ -40,53 +40,6 @@ pub fn cut<const N: usize>(s: &[u8], at: usize) -> [u8; N]
     b
 }
 
-// A number as two bytes, the low byte first.
-pub fn le2(n: u16) -> [u8; 2]
-    ensures { result ≡ le 2 n }
-{
-    [(n % 256) as u8, (n / 256 % 256) as u8]
-}
-
-// A number as four bytes, the low byte first.
-pub fn le4(n: u32) -> [u8; 4]
-    ensures { result ≡ le 4 n }
-{
-    [
-        (n % 256) as u8,
-        (n / 256 % 256) as u8,
-        (n / 256 / 256 % 256) as u8,
-        (n / 256 / 256 / 256 % 256) as u8,
-    ]
-}
-
-// A number as four bytes, the high byte first.
-pub fn be4(n: u32) -> [u8; 4]
-    ensures { result ≡ be 4 n }
-{
-    [
-        (n / 256 / 256 / 256 % 256) as u8,
-        (n / 256 / 256 % 256) as u8,
-        (n / 256 % 256) as u8,
-        (n % 256) as u8,
-    ]
-}
-
-// A number as eight bytes, the high byte first.
-pub fn be8(n: u64) -> [u8; 8]
-    ensures { result ≡ be 8 n }
-{
-    [
-        (n / 256 / 256 / 256 / 256 / 256 / 256 / 256 % 256) as u8,
-        (n / 256 / 256 / 256 / 256 / 256 / 256 % 256) as u8,
-        (n / 256 / 256 / 256 / 256 / 256 % 256) as u8,
-        (n / 256 / 256 / 256 / 256 % 256) as u8,
-        (n / 256 / 256 / 256 % 256) as u8,
-        (n / 256 / 256 % 256) as u8,
-        (n / 256 % 256) as u8,
-        (n % 256) as u8,
-    ]
-}
-
 // The number that the two bytes from `at` on say, the low byte first; bytes past the end count as 0.
 pub fn load_le2(s: &[u8], at: usize) -> u16
     ensures { result ≡ unle (part s.now at 2) }
@@ -99,13 +52,6 @@ pub fn load_le4(s: &[u8], at: usize) -> u32
     ensures { result ≡ unle (part s.now at 4) }
 {
     u32::from_le_bytes(cut(s, at))
-}
-
-// The sixteen bytes from `at` on; bytes past the end count as 0.
-pub fn block(s: &[u8], at: usize) -> [u8; 16]
-    ensures { result ≡ filled 16 (part s.now at 16) }
-{
-    cut(s, at)
 }
 
 // Puts `src` into `dst` at `at` where all of it fits; else nothing changes and the answer is false.

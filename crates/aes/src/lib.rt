@@ -1,8 +1,9 @@
 // AES with a key of 128 bits (FIPS 197): key expansion, the cipher and the inverse cipher of one block.
 #![tactic(auto)]
 
-ghost use Rattle.std.specs.Prelude.{◌≡◌, ◌<◌};
-ghost use Rattle.aes.specs.State.{shift_rows, unshift_rows, mix_row, unmix_row, mix_columns, unmix_columns, add_round_key};
+ghost use Rattle.std.specs.Prelude.{◌≡◌, ℕ, ◌+◌, ◌/◌, ◌<◌};
+ghost use Rattle.octets.specs.Tab.{tab};
+ghost use Rattle.aes.specs.State.{at, shift_rows, unshift_rows, mix_row, unmix_row, mix_columns, unmix_columns, add_round_key};
 ghost use Rattle.aes.specs.Cipher.{cipher, inv_cipher};
 ghost use Rattle.aes.specs.Key.{key_expansion};
 ghost use Rattle.aes.specs.Schedule.{keys_of};
@@ -53,10 +54,38 @@ fn inv_shift_rows(t: [u8; 16]) -> [u8; 16]
     ]
 }
 
-// Each column times the matrix, whose rows are turns of one. Written out, as the inverse is: made by `array::from_fn` from the
-// column that a byte stands in, the sixteen are not unrolled, and a block costs six times the instructions.
-fn mix_columns(s: [u8; 16]) -> [u8; 16]
-    ensures { result ≡ mix_columns s }
+// The first row of a matrix by which a column is multiplied; its other rows are turns of it.
+trait Row {
+    ghost product: { ℕ → ℕ → ℕ → ℕ → ℕ };
+
+    fn times(a: u8, b: u8, c: u8, d: u8) -> u8
+        ensures { result ≡ product a b c d };
+}
+
+struct MixRow;
+
+impl Row for MixRow {
+    ghost product = { mix_row };
+
+    fn times(a: u8, b: u8, c: u8, d: u8) -> u8 {
+        mix_byte(a, b, c, d)
+    }
+}
+
+struct UnmixRow;
+
+impl Row for UnmixRow {
+    ghost product = { unmix_row };
+
+    fn times(a: u8, b: u8, c: u8, d: u8) -> u8 {
+        unmix_byte(a, b, c, d)
+    }
+}
+
+// Each column times a matrix. Written out: made by `array::from_fn` from the column that a byte stands in, the sixteen are not
+// unrolled, and a block costs six times the instructions.
+fn times_columns<R: Row>(s: [u8; 16]) -> [u8; 16]
+    ensures { result ≡ tab 16 (λ i. R.product (at s i (i / 4)) (at s (i + 1) (i / 4)) (at s (i + 2) (i / 4)) (at s (i + 3) (i / 4))) }
 {
     let [
         s0,
@@ -77,65 +106,39 @@ fn mix_columns(s: [u8; 16]) -> [u8; 16]
         s15,
     ] = s;
     [
-        mix_byte(s0, s1, s2, s3),
-        mix_byte(s1, s2, s3, s0),
-        mix_byte(s2, s3, s0, s1),
-        mix_byte(s3, s0, s1, s2),
-        mix_byte(s4, s5, s6, s7),
-        mix_byte(s5, s6, s7, s4),
-        mix_byte(s6, s7, s4, s5),
-        mix_byte(s7, s4, s5, s6),
-        mix_byte(s8, s9, s10, s11),
-        mix_byte(s9, s10, s11, s8),
-        mix_byte(s10, s11, s8, s9),
-        mix_byte(s11, s8, s9, s10),
-        mix_byte(s12, s13, s14, s15),
-        mix_byte(s13, s14, s15, s12),
-        mix_byte(s14, s15, s12, s13),
-        mix_byte(s15, s12, s13, s14),
+        R::times(s0, s1, s2, s3),
+        R::times(s1, s2, s3, s0),
+        R::times(s2, s3, s0, s1),
+        R::times(s3, s0, s1, s2),
+        R::times(s4, s5, s6, s7),
+        R::times(s5, s6, s7, s4),
+        R::times(s6, s7, s4, s5),
+        R::times(s7, s4, s5, s6),
+        R::times(s8, s9, s10, s11),
+        R::times(s9, s10, s11, s8),
+        R::times(s10, s11, s8, s9),
+        R::times(s11, s8, s9, s10),
+        R::times(s12, s13, s14, s15),
+        R::times(s13, s14, s15, s12),
+        R::times(s14, s15, s12, s13),
+        R::times(s15, s12, s13, s14),
     ]
 }
 
+// Each column times the matrix of MixColumns.
+#[tactic(auto, unfolding(crate::specs::State::mix_columns))]
+fn mix_columns(s: [u8; 16]) -> [u8; 16]
+    ensures { result ≡ mix_columns s }
+{
+    times_columns::<MixRow>(s)
+}
+
 // Each column times the inverse matrix.
+#[tactic(auto, unfolding(crate::specs::State::unmix_columns))]
 fn inv_mix_columns(s: [u8; 16]) -> [u8; 16]
     ensures { result ≡ unmix_columns s }
 {
-    let [
-        s0,
-        s1,
-        s2,
-        s3,
-        s4,
-        s5,
-        s6,
-        s7,
-        s8,
-        s9,
-        s10,
-        s11,
-        s12,
-        s13,
-        s14,
-        s15,
-    ] = s;
-    [
-        unmix_byte(s0, s1, s2, s3),
-        unmix_byte(s1, s2, s3, s0),
-        unmix_byte(s2, s3, s0, s1),
-        unmix_byte(s3, s0, s1, s2),
-        unmix_byte(s4, s5, s6, s7),
-        unmix_byte(s5, s6, s7, s4),
-        unmix_byte(s6, s7, s4, s5),
-        unmix_byte(s7, s4, s5, s6),
-        unmix_byte(s8, s9, s10, s11),
-        unmix_byte(s9, s10, s11, s8),
-        unmix_byte(s10, s11, s8, s9),
-        unmix_byte(s11, s8, s9, s10),
-        unmix_byte(s12, s13, s14, s15),
-        unmix_byte(s13, s14, s15, s12),
-        unmix_byte(s14, s15, s12, s13),
-        unmix_byte(s15, s12, s13, s14),
-    ]
+    times_columns::<UnmixRow>(s)
 }
 
 // The sum with round key n of those in w.

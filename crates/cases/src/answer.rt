@@ -18,7 +18,7 @@ fn show_bytes(out: &mut [u8], c: Cursor, s: &[u8]) -> Cursor
     text::hex(out, c, s)
 }
 
-// A word and bytes.
+// A word and bytes. Output and cursor stay two arguments here, as in `text` (`add`).
 pub fn say_bytes(out: &mut [u8], c: Cursor, word: &[u8], s: &[u8]) -> Cursor
     ensures { SayPromise out.old c (word.now ∷ shown s.now ∷ []) result out.new }
 {

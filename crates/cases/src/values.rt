@@ -9,7 +9,7 @@ use crate::split::pick_field;
 // The most room that a call is lent.
 const MOST_ROOM: u32 = 70000;
 
-// Where the bytes of a field stand in a buffer that holds those of several.
+// Where the bytes of a field stand in a buffer that holds those of several. No slice: it would borrow the buffer that the next field is read into.
 #[derive(Clone, Copy)]
 pub struct Span {
     pub from: usize,

@@ -47,7 +47,8 @@ fn decrypt_blocks(a: Aes128, iv: [u8; 16], s: &mut [u8])
     }
 }
 
-// Encrypts the lent bytes in their place.
+// Encrypts the lent bytes in their place. This and the next stay two: one function over both would be handed the chain as a closure, and each
+// promise would still stand at its own name.
 pub fn cbc_encrypt(key: [u8; 16], iv: [u8; 16], s: &mut [u8]) -> Result<(), Refusal>
     ensures { CbcPromise s.old (cbc_encrypt key iv s.old) result s.new }
 {

@@ -74,7 +74,8 @@ fn find_length(r: Read) -> usize {
     r.answer.map_or(0, |a| a.len)
 }
 
-// Reads a copy of the packet and answers the payload's length, 0 where it was refused.
+// Reads a copy of the packet and answers the payload's length, 0 where it was refused. Session, packet and copy stay three arguments, as the calls
+// that are counted take them.
 fn read_packet(s: SubState, packet: &[u8], copy: &mut [u8]) -> usize {
     octets::put(copy, 0, packet);
     find_length(frame::read_payload(s, copy))

@@ -16,7 +16,8 @@ use octets::le;
 use refusal::Refusal;
 use sha1_hmac::{Hashed, Sha1Hmac};
 
-// The role byte and the user's name: the first `len` of sixteen bytes. A length over 16 counts as 16.
+// The role byte and the user's name: the first `len` of sixteen bytes. A length over 16 counts as 16. There is no heap to hold a name of its own
+// length.
 #[derive(Clone, Copy)]
 pub struct Named {
     pub role: u8,

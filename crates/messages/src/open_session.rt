@@ -97,7 +97,8 @@ pub struct OpenSessionResponse {
     pub confidentiality: ConfidentialityAlgorithm,
 }
 
-// The block in the place of authentication.
+// The block in the place of authentication. The three that read a block differ in a pattern: one function over a trait of the three
+// algorithms would need three impls of as many lines.
 #[tactic(auto, unfolding(crate::specs::Block::of_type, refusal::specs::Order::need, refusal::specs::Order::and_then))]
 fn read_authentication(block: [u8; 8]) -> Result<AuthenticationAlgorithm, Refusal>
     ensures { told_as authentication_code result ≡ of_type 0 (block_of block) }

@@ -40,7 +40,7 @@ impl Message {
         }
     }
 
-    // How many of them are the message: a name may have 16, and the long one has one more.
+    // How many of them are the message: a name may have 16, and the long one has one more. No discriminants: a length is not what a message is.
     fn len(self) -> usize
         ensures { result ≤ 64 }
     {

@@ -53,7 +53,7 @@ impl Told {
 }
 
 impl Row {
-    // The last case; the first is 0.
+    // The last case; the first is 0. No discriminants: a row says more than its last case.
     fn last(self) -> u8 {
         match self {
             Row::Byte(_, _) | Row::BlockByte(_, _) => 255,

@@ -14,7 +14,8 @@ use std::io;
 // No heap: every datagram of the story stands in a room of this fixed length.
 const ROOM: usize = 128;
 
-// An open session, and beside it the record of what arrived in it.
+// An open session, and beside it the record of what arrived in it. `exchange` has the same struct: a library for two fields of two programs
+// would be no plainer.
 #[derive(Clone, Copy)]
 struct Held {
     session: SubState,

@@ -26,7 +26,7 @@ pub struct Accepted {
     pub len: usize,
 }
 
-// The answer, and how many blocks were compressed for the integrity code.
+// The answer, and how many blocks were compressed for the integrity code. No Result of the two: the blocks are told beside a refusal too.
 #[derive(Clone, Copy)]
 pub struct Read {
     pub answer: Result<Accepted, Refusal>,

@@ -22,6 +22,7 @@ impl Answer<'_> {
         Ok(())
     }
 
+    // Each of these five names the call that adds to the output; one that took the call as a closure would be longer where it is used.
     pub fn say(&mut self, word: &[u8]) {
         self.end = text::add(self.out, self.end, word);
     }

@@ -25,7 +25,8 @@ pub fn read_session(line: &[u8]) -> Option<SubState> {
     })
 }
 
-// A packet that stands in the buffer twice, so that what a call changed shows: the one lent ends at `len`, the other at `end`.
+// A packet that stands in the buffer twice, so that what a call changed shows: the one lent ends at `len`, the other at `end`. No
+// slices: the first is lent to be changed while the second is kept.
 #[derive(Clone, Copy)]
 pub struct Twice {
     pub len: usize,

@@ -58,7 +58,7 @@ fn feed_zeros<H, F: Fn(H, &[u8]) -> Result<H, Refusal>>(
     feed(fed, pick_part(&zeros, 0, (n % m) as usize))
 }
 
-// `zeros N M`.
+// `zeros N M`. That M is not 0 is asked of three functions and tested once, in `read_zeros`.
 fn hash_zeros(n: u32, m: u32) -> Result<Hashed, Refusal>
     requires { 0 < m }
 {

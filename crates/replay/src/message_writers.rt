@@ -44,7 +44,7 @@ fn write_named(f: First, name: &[u8], room: &mut [u8]) -> Result<usize, Refusal>
     message.write(room)
 }
 
-// `rakp1 TAG ID RM ROLE NAME ROOM`.
+// `rakp1 TAG ID RM ROLE NAME ROOM`. Line, buffer and room stay three arguments: of a struct behind a reference only one field is lent at a time.
 pub fn write_message1(
     line: &[u8],
     buf: &mut [u8],

@@ -15,7 +15,7 @@ pub enum Writer {
     Decline,
 }
 
-// Which field of a line is the room.
+// Which field of a line is the room. No discriminants: two of the cases have the same.
 fn find_room(which: Writer) -> usize {
     match which {
         Writer::Packet | Writer::Datagram => 8,

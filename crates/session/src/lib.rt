@@ -78,7 +78,8 @@ pub struct Record {
     pub agreed: Agreed,
 }
 
-// What a step leaves: the record, its answer, and how many bytes it wrote. A refusal may have written too: the message that declines.
+// What a step leaves: the record, its answer, and how many bytes it wrote. A refusal may have written too, the
+// message that declines, and each leaves a record: so the three stand side by side.
 #[derive(Clone, Copy)]
 pub struct Stepped {
     pub state: Record,

@@ -87,7 +87,7 @@ fn do_twenty_rounds(h: Chain, w: &[u32; 80], s: usize) -> Chain
     v
 }
 
-// The sixteen words of the block m.
+// The sixteen words of the block m. A block is a slice of 64 and no array: it is read where it lies, as `chunks_exact` lends it, in these three.
 #[tactic(auto, using(crate::proofs::Laws::words_more), unfolding(crate::specs::Block::words))]
 fn load_block(m: &[u8]) -> [u32; 80]
     requires { length m.now ≡ 64 }

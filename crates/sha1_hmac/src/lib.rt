@@ -21,7 +21,7 @@ pub use mac::{Sha1Hmac, hmac};
 // More bytes than this, all pieces together, are refused.
 pub const LIMIT: usize = 1048576;
 
-// The blocks compressed so far are counted in `blocks`. The first `len % 64` bytes of `buf` wait; the others are zero.
+// The blocks compressed so far are counted in `blocks`. There is no heap to hold the bytes that wait: the first `len % 64` bytes of `buf` wait; the others are zero.
 #[derive(Clone, Copy)]
 pub struct Sha1 {
     h: Chain,
@@ -149,7 +149,7 @@ impl Sha1 {
         }
     }
 
-    // The hash after s.
+    // The hash after s. That s is within the limit no type says: the limit is on all pieces together, and each call tests it once.
     fn absorb(self, s: &[u8]) -> Sha1
         requires { length s.now ≤ inner_limit }
         ensures { state_of result ≡ taken sha1_hash (state_of self) s.now }

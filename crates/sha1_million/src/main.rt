@@ -55,7 +55,7 @@ fn next_piece(turn: usize, left: usize) -> usize
     left.min(1 + turn % 997)
 }
 
-// The state after `count` bytes more, in uneven pieces.
+// The state after `count` bytes more, in uneven pieces. The loop stays a `while`: how many turns it takes shows only as the pieces are taken.
 fn feed<R: Running>(state: R, a: &[u8; 997], count: usize) -> Result<R, Refusal> {
     let mut state = state;
     let mut left = count;

@@ -15,7 +15,7 @@ pub struct Packet {
     pub len: usize,
 }
 
-// The line of a packet at the start of `out`, and its length.
+// The line of a packet at the start of `out`, and its length. The room of 64 is asked of these three and of no caller: `packet_line` has it.
 fn write_packet(out: &mut [u8], p: Packet) -> usize
     requires { 64 ≤ length out.old }
     ensures { Begins out.old (line_of (Ok p)) result out.new }

@@ -82,7 +82,8 @@ fn join_digits(h: u8, l: u8) -> u8
     16 * read_digit(h) + read_digit(l)
 }
 
-// Puts the bytes where they are known to fit.
+// Puts the bytes where they are known to fit. Output, place and text stay three arguments here and in the call: a part of the output would hide the
+// place that the promise names.
 #[tactic(auto, using(crate::proofs::Reading::pair_turn, crate::proofs::Reading::digits_at, crate::proofs::Reading::length_pairs, octets::proofs::Place::pasted_none))]
 fn put_bytes(out: &mut [u8], at: usize, s: &[u8])
     requires room { at + length (pairs s.now) ≤ length out.old }

@@ -5,7 +5,7 @@ ghost use Rattle.text.specs.Digits.{digit, decimal, hex, hex8};
 ghost use Rattle.text.specs.Promise.{takes, AddPromise};
 
 // Where the next byte goes. Once something did not fit the buffer is full: nothing more is written, so that a writer looks
-// at `full` once, at the end.
+// at `full` once, at the end. No Option of the place: it counts when the buffer is full too, since what stands before it is whole.
 #[derive(Clone, Copy)]
 pub struct Cursor {
     pub at: usize,

@@ -42,6 +42,7 @@ fn choose_q(n: usize) -> usize
     (4 - (n + 2) % 4) % 4
 }
 
+// How long a body is. That n is at most 65,535 no type says: the length of a slice is any, and `check_room` tests it once for these four.
 fn measure_body(c: Confidentiality, n: usize) -> usize
     requires { n ≤ 65535 }
     ensures { result ≡ body_size (encrypts c) n }
@@ -140,7 +141,8 @@ fn encrypt(key: [u8; 16], iv: [u8; 16], s: &mut [u8])
     let _ = cbc::cbc_encrypt(key, iv, s);
 }
 
-// An encrypted body at its place: the IV, then payload, pad and count, encrypted where they stand.
+// An encrypted body at its place: the IV, then payload, pad and count, encrypted where they stand. Payload, IV and output stay three arguments:
+// of a struct behind a reference only one field is lent at a time.
 fn write_encrypted(s: SubState, payload: &[u8], iv: [u8; 16], out: &mut [u8])
     requires { (length payload.now ≤ 65535) × (12 + body_size true (length payload.now) ≤ length out.old) }
     ensures { out.new ≡ pasted out.old 12

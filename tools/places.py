@@ -1,7 +1,7 @@
 #!/usr/bin/env python3
 """Places in crates/*/src where an older form may stand, by the points of docs/DESIGN-PASS.md: tools/places.py [POINT] prints each place and a count.
 
-Points 1 to 7; without one, the counts alone. It reads the text and knows no types, so a place that it shows is one to look at.
+Points 1 to 7; without one, the counts alone. It reads the text and knows no types, so a place that it shows is one to look at. An impl of TryFrom is no place: it is the form that is asked for.
 """
 import collections
 import glob
@@ -76,6 +76,8 @@ def normal(text):
 def point_2():
     groups = collections.defaultdict(list)
     for path, number, name, head, body in functions():
+        if name == "try_from":
+            continue
         key = normal(body)
         if key.count(" ") >= 12:
             groups[key if key.count(" ") >= 20 else path.split("/")[1] + key].append((path, number, name))
@@ -95,6 +97,8 @@ def point_3():
 
 def point_4():
     for path, number, name, head, body in functions():
+        if name == "try_from":
+            continue
         one = re.sub(r"\s+", " ", body)
         signature = re.sub(r"\s+", " ", head)
         to_number = re.search(r"-> (u8|u16|u32|u64|usize|bool)\b", signature)
@@ -147,7 +151,7 @@ def point_6():
 def point_7():
     for path, number, name, head, body in functions():
         calls = re.findall(r"=> (?:return )?\w+(?:::\w+)*\(", body)
-        if len(calls) >= 5 and re.search(r"\b\d+ => ", body):
+        if name != "try_from" and len(calls) >= 5 and re.search(r"\b\d+ => ", body):
             yield path, number, "fn %s: a switch of %d steps" % (name, len(calls))
         if re.search(r"\bfn\s*\(", head.split("(", 1)[-1]) or re.search(r": \[fn\(", body):
             yield path, number, "fn %s: a function pointer" % name

@@ -44,7 +44,7 @@ fn shift_rows(s: [u8; 16]) -> [u8; 16]
     ]
 }
 
-// Row r is turned right by r places.
+// Row r is turned right by r places. Two lists of sixteen places, this and the one before: one function given the places would read them by a table.
 fn inv_shift_rows(t: [u8; 16]) -> [u8; 16]
     ensures { result ≡ unshift_rows t }
 {

@@ -1,18 +1,21 @@
 -- Laws of names: how many bytes a name has, how it is stored, and what a name is that was taken.
-use Prim.Native.Nat.{ℕ, ◌≤◌, min}
+use Prim.Native.Nat.{ℕ, ◌<◌, ◌≤◌, min}
 use native.Mathlib.Omega.{arith}
 use mathlib.Core.Bool.{true}
 use mathlib.Core.List.{List}
 use mathlib.Core.Logic.{inl, inr}
-use mathlib.Core.Path.{◌≡◌, refl, sym, ◌∙◌, ap}
+use mathlib.Core.Path.{◌≡◌, refl, sym, ◌∙◌, ap, subst}
 use lib.ListN.{length, take}
 use lib.Seq.{take_all, take_at, length-take-le}
-use borrow.Author.Tests.{leb-true}
-use Rattle.refusal.specs.Order.{accept}
-use Rattle.refusal.proofs.Order.{accept_inj, need_inv}
+use borrow.Author.Tests.{leb-true, lt-leb}
+use Rattle.std.specs.Prelude.{Result}
+use Rattle.refusal.specs.Order.{Res, refuse, accept}
+use Rattle.refusal.proofs.Order.{accept_inj, need_inv, need_no}
 use Rattle.octets.proofs.Order.{lt_or_le}
 use Rattle.octets.specs.Place.{part, filled}
 use Rattle.messages.specs.Name.{allowed, longest_name, username_of, name_of, stored}
+use Rattle.messages.specs.Promises.{NamePromise}
+use Rattle.refusal.specs.declared.Refusal.{Refusal}
 use Rattle.messages.specs.declared.rakp_1.Username.{Username}
 
 -- a name has as many bytes as its length says, or sixteen where that is more
@@ -49,3 +52,10 @@ taken_name l n e =
     let a = need_inv _ _ _ _ e in
     let b = need_inv _ _ _ _ a.1 in
     (leb-true _ _ a.0, b.0, accept_inj _ _ b.1)
+
+-- and which is refused as too long
+pub name_long : (l : List ℕ) (z : Result Username Refusal) → NamePromise (refuse 40 0) z → longest_name < length l → NamePromise (username_of l) z
+unfolding username_of
+name_long l z p h =
+    let e : username_of l ≡ refuse 40 0 = need_no _ _ _ _ (lt-leb (length l) longest_name h) in
+    subst (λ (R : Res (List ℕ)). NamePromise R z) (sym e) p

@@ -7,7 +7,7 @@ use mathlib.Core.Path.{◌≡◌, sym, ◌∙◌, ap}
 use lib.ListN.{length, get_or}
 use borrow.Author.Tests.{eqb-true}
 use Rattle.std.proofs.lemmas.Bool.Decides.{nat_tests}
-use Rattle.refusal.specs.Order.{accept, need}
+use Rattle.refusal.specs.Order.{Res, accept, need}
 use Rattle.refusal.proofs.Order.{need_inv, then_accept}
 use Rattle.octets.specs.Number.{unle}
 use Rattle.octets.specs.Place.{part, filled}
@@ -15,6 +15,10 @@ use Rattle.octets.proofs.Filled.{filled-part}
 use Rattle.messages.specs.Auth.{is_level}
 use Rattle.messages.specs.Block.{block_of, of_type}
 use Rattle.messages.specs.OpenSession.{Response, open_checked, open_numbers, open_fields}
+
+-- what was answered of bytes holds of the bytes that are the same
+pub cut_answer : (t : ℕ) (b p : List ℕ) (A R : Res ℕ) → b ≡ p → A ≡ of_type t (block_of b) → A ≡ R → of_type t (block_of p) ≡ R
+cut_answer t b p A R e f g = ap (λ (l : List ℕ). of_type t (block_of l)) (sym e) ∙ sym f ∙ g
 
 module _ (m : List ℕ) where
   pub fields_all : (a : ℕ) → of_type 0 (block_of (part m 12 8)) ≡ accept a → (i : ℕ) → of_type 1 (block_of (part m 20 8)) ≡ accept i

@@ -2,10 +2,10 @@
 use Prim.Native.Nat.{ℕ, ◌+◌, ◌-◌, ◌≤◌, min}
 use native.Mathlib.Omega.{arith}
 use mathlib.Core.Bool.{Bool}
-use mathlib.Core.List.{List, ◌++◌, append-nil}
+use mathlib.Core.List.{List, [], ◌++◌, append-nil}
 use mathlib.Core.Path.{◌≡◌, sym, ◌∙◌, ap, ap₂}
-use lib.ListN.{length, take, drop, replicate, length-drop, length-replicate}
-use lib.Seq.{length-take-le}
+use lib.ListN.{length, take, drop, replicate, length-drop, length-replicate, drop_of_length-le}
+use lib.Seq.{length-take-le, take_all}
 use Rattle.std.proofs.lemmas.List.{drop-replicate, drop_min, length-take, take_min, take_rest}
 use Rattle.octets.specs.Place.{part, filled, begun}
 use Rattle.octets.specs.Promise.{PutPromise}
@@ -21,6 +21,16 @@ pub filled-part : (n : ℕ) (l : List ℕ) (a : ℕ) → a + n ≤ length l → 
 filled-part n l a h =
     let e : length (part l a n) ≡ n = length-take-le n (drop a l) (omega (arith, length-drop a l)) in
     filled_long n (part l a n) (omega arith)
+
+-- past the end there are zeros alone
+pub filled_past : (n : ℕ) (l : List ℕ) (a : ℕ) → length l ≤ a → replicate n 0 ≡ filled n (part l a n)
+unfolding filled
+filled_past n l a h =
+    let e : n - 0 ≡ n = omega arith in
+    sym
+    (ap (λ (m : List ℕ). filled n (take n m)) (drop_of_length-le l h)
+    ∙ ap (filled n) (take_all n [] (omega arith))
+    ∙ ap (λ (k : ℕ). replicate k 0) e)
 
 -- what is cut out of a list and has zeros behind it
 pub cut_filled : (n k m a : ℕ) (l x : List ℕ) → k ≡ min a (length l) → m ≡ min n (length (take (length l - k) (drop k l)))

@@ -11,12 +11,18 @@ use Rattle.messages.specs.Rakp.{message2}
 use Rattle.messages.specs.declared.rakp_2.RakpMessage2.{RakpMessage2}
 use Rattle.session.specs.Constants.{kg_size, one_size, three_size}
 use Rattle.session.specs.Record.{in_step}
-use Rattle.session.specs.Steps.{ready_open, ready_two, heard_two, ready_four}
+use Rattle.session.specs.Steps.{level_allowed, ready_begin, ready_open, ready_two, heard_two, ready_four}
+use Rattle.session.specs.declared.Asked.{Asked}
 use Rattle.session.specs.declared.Record.{Record}
 
 pub in_len : (s : Record) (k : ℕ) → in_step s k ≡ true → s.begun.username.len ≤ 16
 unfolding in_step
 in_len s k e = grind (arith, common_steps)
+
+-- before anything is written: what is known of the level
+pub begin_known : (asked : Asked) → ready_begin asked ≡ accept tt → level_allowed asked.level ≡ true
+unfolding ready_begin need
+begin_known asked e = grind (arith, common_steps)
 
 -- before the open response is looked at
 pub open_known : (s : Record) (room : ℕ) → ready_open s room ≡ accept tt

@@ -1,7 +1,7 @@
 -- A running HMAC to which a key and bytes were given: what a piece and the end make of it. One line a piece for those who feed several.
 use Prim.Native.Nat.{ℕ, ◌+◌, ◌≤◌}
 use mathlib.Core.List.{List, [], ◌++◌}
-use mathlib.Core.Path.{◌≡◌}
+use mathlib.Core.Path.{◌≡◌, refl}
 use lib.ListN.{length}
 use borrow.Author.Tests.{leb-true, le-leb}
 use Rattle.refusal.specs.Order.{Res, refuse, accept}
@@ -27,9 +27,14 @@ module _ {C : Type 0} (H : Hash C) (ok : Sized H) where
     pub given_answer : GivenPromise H key m (accept st)
     given_answer = within g.key g.state
 
-    -- a piece goes to the end of what was given
-    pub given_more : (s : List ℕ) {v : MacState C} → MacFedPromise H st s (accept v) → length m + length s ≤ limit → Given H key (m ++ s) v
-    given_more s p l = record { key = g.key; state = accept_inj _ _ (mac_more H ok key m s g.state p l) }
+    -- a piece that the limit lets in is taken, and goes to the end of what was given
+    pub given_more : (s : List ℕ) {r : Res (MacState C)} → MacFedPromise H st s r → length m + length s ≤ limit
+        → (v : MacState C) × (r ≡ accept v) × Given H key (m ++ s) v
+    given_more s p l = (_, mac_more H ok key m s g.state p l, record { key = g.key; state = refl })
+
+    -- so what an accepted piece left is that state
+    pub given_next : (s : List ℕ) {v : MacState C} → MacFedPromise H st s (accept v) → length m + length s ≤ limit → Given H key (m ++ s) v
+    given_next s p l = record { key = g.key; state = accept_inj _ _ (mac_more H ok key m s g.state p l) }
 
     -- and is not refused
     pub given_taken : (s : List ℕ) {a b : ℕ} → MacFedPromise H st s (refuse a b) → length m + length s ≤ limit → ⊥

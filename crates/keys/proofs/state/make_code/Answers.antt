@@ -5,7 +5,7 @@ use lib.Seq.{length-take-le}
 use Rattle.hmac.specs.Pieces.{joined}
 use Rattle.sha1_block.specs.Block.{sha1_hash}
 use Rattle.sha1_block.proofs.Laws.{sha1_sized}
-use Rattle.running.proofs.Givens.{given_by, given_more, given_taken, given_hashed}
+use Rattle.running.proofs.Givens.{given_by, given_next, given_taken, given_hashed}
 use Rattle.running.proofs.Promised.{handed_on}
 use Rattle.keys.proofs.Pieces.{each}
 use Rattle.keys.proofs.Named.{named_text}
@@ -34,7 +34,7 @@ returns-in_err-feed-2 c =
     let s : length (take m a.named.name) ≤ 16 = short m a.named.name n (omega arith) in
     let k : length (text ++ (a.named.role ∷ m ∷ [])) ≡ length text + 2 = length-append text (a.named.role ∷ m ∷ []) in
     let g = given_by sha1_hash sha1_sized _ _ c.in_ok-feed_pieces.ensures in
-    let h = given_more sha1_hash sha1_sized _ _ g _ c.in_ok-feed.ensures (omega arith) in
+    let h = given_next sha1_hash sha1_sized _ _ g _ c.in_ok-feed.ensures (omega arith) in
     absurd (given_taken sha1_hash sha1_sized _ _ h _ c.in_err-feed-2.ensures (omega arith))
 
 pub returns : goal.returns
@@ -48,6 +48,6 @@ returns c =
     let j : length ((text ++ (a.named.role ∷ m ∷ [])) ++ take m a.named.name) ≡ length (text ++ (a.named.role ∷ m ∷ [])) + length (take m a.named.name) =
     length-append (text ++ (a.named.role ∷ m ∷ [])) (take m a.named.name) in
     let g = given_by sha1_hash sha1_sized _ _ c.in_ok-feed_pieces.ensures in
-    let h = given_more sha1_hash sha1_sized _ _ g _ c.in_ok-feed.ensures (omega arith) in
-    let i = given_more sha1_hash sha1_sized _ _ h _ c.in_ok-feed-2.ensures (omega arith) in
+    let h = given_next sha1_hash sha1_sized _ _ g _ c.in_ok-feed.ensures (omega arith) in
+    let i = given_next sha1_hash sha1_sized _ _ h _ c.in_ok-feed-2.ensures (omega arith) in
     rw (named_text text a.named m n c.min-len.ensures) at (given_hashed sha1_hash sha1_sized _ _ i c.finalize.ensures (omega arith))

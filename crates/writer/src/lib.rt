@@ -138,7 +138,7 @@ fn encrypt(key: [u8; 16], iv: [u8; 16], s: &mut [u8])
     requires { length s.old % 16 ≡ 0 }
     ensures { s.new ≡ cbc_encrypt key iv s.old }
 {
-    let _ = cbc::cbc_encrypt(key, iv, s);
+    cbc::cbc_encrypt(key, iv, s).unwrap();
 }
 
 // An encrypted body at its place: the IV, then payload, pad and count, encrypted where they stand. Payload, IV and output stay three arguments:
@@ -182,8 +182,7 @@ fn write_code(s: SubState, k: usize, out: &mut [u8])
     let n = next + 1;
     let c = suite::make_code(s, &out[..n]);
     let m = suite::code_len(s.integrity);
-    let code = c.code;
-    octets::put(out, n, &code[..m]);
+    octets::put(out, n, &c.code[..m]);
 }
 
 // A packet at the start of an output with room for it.
@@ -192,11 +191,10 @@ fn write_packet(s: SubState, m: Message, iv: [u8; 16], out: &mut [u8])
     ensures { out.new ≡ begun (ours (suite_of s) (record { ty = type_number m.entry.ty; id = m.entry.id; seq = m.entry.seq; payload = m.entry.payload.now }) iv)
         out.old }
 {
-    let payload = m.payload;
-    let n = measure_body(s.confidentiality, payload.len());
+    let n = measure_body(s.confidentiality, m.payload.len());
     let h = make_header(s, m, n);
     octets::put(out, 0, &h);
-    write_body(s, payload, iv, out);
+    write_body(s, m.payload, iv, out);
     if suite::carries_code(s.integrity) {
         write_code(s, 12 + n, out);
     }
@@ -215,8 +213,7 @@ fn write_behind(
         (length out.old)) out.old result out.new }
 {
     let at = before.len();
-    let payload = m.payload;
-    let n = check_room(s, payload.len(), at, out.len())?;
+    let n = check_room(s, m.payload.len(), at, out.len())?;
     octets::put(out, 0, before);
     write_packet(s, m, iv, &mut out[at..]);
     Ok(n)

@@ -18,11 +18,6 @@ slice_bounds-make_code-end-2 c =
     sym (length-take-le _ c.put_trailer.new.out
     (omega (arith, c.put_trailer.auto.out, c.choose_q-q.ensures, c.requires.1)))
 
-pub slice_bounds-code-end : goal.slice_bounds-code-end
-slice_bounds-code-end c =
-    let n : length c.make_code-c.result.code ≡ longest_code = search rules in
-    omega (arith, c.code_len-m.ensures, code_short c.args.s.integrity)
-
 pub slice_bounds-put-end : goal.slice_bounds-put-end
 slice_bounds-put-end c =
     let n : length c.make_code-c.result.code ≡ longest_code = search rules in

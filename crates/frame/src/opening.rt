@@ -18,17 +18,18 @@ use suite::SubState;
 fn is_openable(packet: &[u8]) -> bool
     ensures { result ≡ openable packet.now }
 {
-    let n = octets::load_le2(packet, 10) as usize;
+    let n = usize::from(octets::load_le2(packet, 10));
     16 <= n && (n - 16) % 16 == 0 && 12 + n <= packet.len()
 }
 
-// Whole blocks are never refused.
+// Whole blocks are never refused. A function of its own, as the writer's `encrypt` is: its caller is told one equation, where cbc's promise
+// is a choice by the length.
 #[tactic(auto, unfolding(cbc::specs::Promise::whole, refusal::specs::Order::need))]
 fn decrypt(key: [u8; 16], iv: [u8; 16], s: &mut [u8])
     requires { length s.old % 16 ≡ 0 }
     ensures { s.new ≡ cbc_decrypt key iv s.old }
 {
-    let _ = cbc::cbc_decrypt(key, iv, s);
+    cbc::cbc_decrypt(key, iv, s).unwrap();
 }
 
 // The part between the IV and the trailer is decrypted in its place.
@@ -37,7 +38,7 @@ fn decrypt_body(s: SubState, packet: &mut [u8])
     ensures { packet.new ≡ pasted packet.old 28
         ((suite_of s).dec (part packet.old 12 16) (part packet.old 28 (body_length packet.old - 16))) }
 {
-    let n = octets::load_le2(packet, 10) as usize;
+    let n = usize::from(octets::load_le2(packet, 10));
     let iv = octets::cut(packet, 12);
     let end = 12 + n;
     decrypt(s.keys.aes_key(), iv, &mut packet[28..end]);
@@ -75,7 +76,7 @@ pub fn check_outer(datagram: &[u8]) -> Result<(), Refusal>
     if datagram.len() < 4 {
         return Err(Refusal::NotEnoughData);
     }
-    if !octets::same(&datagram[..4], &suite::OUTER) {
+    if !datagram.starts_with(&suite::OUTER) {
         return Err(Refusal::NotRmcpForIpmi);
     }
     Ok(())

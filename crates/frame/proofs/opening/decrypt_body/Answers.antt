@@ -12,6 +12,6 @@ use Rattle.frame.proofs.opening.decrypt_body.Goals as goal
 pub returns : goal.returns
 returns c =
     let h : 12 + 16 ≤ length c.args.packet.now = omega (arith, c.requires.0, c.requires.2) in
-    body_in_place cbc_decrypt decrypt_length _ _ _ _ _ _ c.requires c.load_le2-n.ensures c.aes_key.ensures
+    body_in_place cbc_decrypt decrypt_length _ _ _ _ _ _ c.requires (c.from-n.ensures ∙ c.load_le2.ensures) c.aes_key.ensures
     (c.cut-iv.ensures ∙ filled-part 16 c.args.packet.now 12 h)
     c.decrypt.ensures

@@ -28,25 +28,23 @@ struct Message<'a> {
 // The least count of pad bytes for whole blocks. This and the next stay two: one for any block would be told the bytes that follow the
 // pad too, and each caller would say two numbers in place of none.
 fn choose_p(n: usize) -> usize
-    requires { n ≤ 65535 }
     ensures { result ≡ least_p n }
 {
-    (16 - (n + 1) % 16) % 16
+    15 - n % 16
 }
 
 // The least count of pad bytes for a multiple of 4.
 fn choose_q(n: usize) -> usize
-    requires { n ≤ 131072 }
     ensures { result ≡ least_q n }
 {
-    (4 - (n + 2) % 4) % 4
+    (6 - n % 4) % 4
 }
 
-// How long a body is. That n is at most 65,535 no type says: the length of a slice is any, and `check_room` tests it once for these four.
-fn measure_body(c: Confidentiality, n: usize) -> usize
-    requires { n ≤ 65535 }
+// How long a body is.
+fn measure_body(c: Confidentiality, n: u16) -> usize
     ensures { result ≡ body_size (encrypts c) n }
 {
+    let n = usize::from(n);
     if suite::encrypts(c) {
         16 + n + choose_p(n) + 1
     } else {
@@ -54,8 +52,7 @@ fn measure_body(c: Confidentiality, n: usize) -> usize
     }
 }
 
-fn measure_packet(s: SubState, n: usize) -> usize
-    requires { n ≤ 65535 }
+fn measure_packet(s: SubState, n: u16) -> usize
     ensures { result ≡ packet_size (suite_of s) n }
 {
     let k = 12 + measure_body(s.confidentiality, n);
@@ -67,7 +64,7 @@ fn measure_packet(s: SubState, n: usize) -> usize
 }
 
 // The longest payload that a body can carry.
-fn find_longest_payload(c: Confidentiality) -> usize
+fn find_longest_payload(c: Confidentiality) -> u16
     ensures { result ≡ longest_payload (encrypts c) }
 {
     if suite::encrypts(c) { 65503 } else { 65535 }
@@ -79,9 +76,9 @@ fn check_room(s: SubState, n: usize, before: usize, room: usize) -> Result<usize
     requires { before ≤ 4 }
     ensures { stage_told result ≡ room_of (suite_of s) before n room }
 {
-    if n > 65535 {
+    let Ok(n) = u16::try_from(n) else {
         return Err(Refusal::PayloadTooLong);
-    }
+    };
     if find_longest_payload(s.confidentiality) < n {
         return Err(Refusal::EncryptedPayloadTooLong);
     }
@@ -95,7 +92,6 @@ fn check_room(s: SubState, n: usize, before: usize, room: usize) -> Result<usize
 // The twelve bytes before a body of n bytes.
 #[tactic(auto, unfolding(framing::specs::Packet::header_of))]
 fn make_header(s: SubState, m: Message, n: usize) -> [u8; 12]
-    requires { n ≤ 65535 }
     ensures { result ≡ header_of (suite_of s) (record { ty = type_number m.entry.ty; id = m.entry.id; seq = m.entry.seq; payload = m.entry.payload.now }) n }
 {
     let flags = 128 * u8::from(suite::encrypts(s.confidentiality))
@@ -191,7 +187,8 @@ fn write_packet(s: SubState, m: Message, iv: [u8; 16], out: &mut [u8])
     ensures { out.new ≡ begun (ours (suite_of s) (record { ty = type_number m.entry.ty; id = m.entry.id; seq = m.entry.seq; payload = m.entry.payload.now }) iv)
         out.old }
 {
-    let n = measure_body(s.confidentiality, m.payload.len());
+    // at most 65,503 with AES, else 65,535: the room was tested for it
+    let n = measure_body(s.confidentiality, m.payload.len() as u16);
     let h = make_header(s, m, n);
     octets::put(out, 0, &h);
     write_body(s, m.payload, iv, out);

@@ -1,5 +1,4 @@
 // The line that tells what became of one packet.
-ghost use Rattle.std.specs.Prelude.{◌≤◌, length};
 ghost use Rattle.text.specs.Line.{line_of, Begins};
 ghost use Rattle.text.specs.Promise.{AddPromise};
 
@@ -15,9 +14,8 @@ pub struct Packet {
     pub len: usize,
 }
 
-// The line of a packet at the start of `out`, and its length. The room of 64 is asked of these three and of no caller: `packet_line` has it.
-fn write_packet(out: &mut [u8], p: Packet) -> usize
-    requires { 64 ≤ length out.old }
+// The line of a packet at the start of `out`, and its length.
+fn write_packet(out: &mut [u8; 64], p: Packet) -> usize
     ensures { Begins out.old (line_of (Ok p)) result out.new }
 {
     let c = Cursor { at: 0, full: false };
@@ -34,8 +32,7 @@ fn write_packet(out: &mut [u8], p: Packet) -> usize
 }
 
 // The line of a refusal at the start of `out`, and its length.
-fn write_refusal(out: &mut [u8], r: Refusal) -> usize
-    requires { 64 ≤ length out.old }
+fn write_refusal(out: &mut [u8; 64], r: Refusal) -> usize
     ensures { Begins out.old (line_of (Err r)) result out.new }
 {
     let c = Cursor { at: 0, full: false };
@@ -46,8 +43,7 @@ fn write_refusal(out: &mut [u8], r: Refusal) -> usize
 }
 
 // The line of either at the start of `out`, and its length: at most 63 characters.
-fn write_line(out: &mut [u8], t: Result<Packet, Refusal>) -> usize
-    requires { 64 ≤ length out.old }
+fn write_line(out: &mut [u8; 64], t: Result<Packet, Refusal>) -> usize
     ensures { Begins out.old (line_of t) result out.new }
 {
     match t {

@@ -48,8 +48,7 @@ fn spell_digit(d: u8) -> u8
 }
 
 // Puts n in decimal at the end of the twenty bytes, which any u64 fits, and answers where it starts.
-fn put_decimal(out: &mut [u8], n: u64) -> usize
-    requires { length out.old ≡ 20 }
+fn put_decimal(out: &mut [u8; 20], n: u64) -> usize
     ensures { (result ≤ length out.new) × (drop result out.new ≡ decimal n) }
 {
     let mut at: usize = 20;

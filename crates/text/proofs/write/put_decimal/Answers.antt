@@ -11,7 +11,7 @@ use Rattle.text.proofs.write.put_decimal.Goals as goal
 pub loop-rest-init : goal.loop-rest-init
 loop-rest-init c =
     let a = c.args in
-    let pre = c.requires in
+    let pre = c.told-out in
     let n = a.n in
     let h : length a.out.now ≤ 20 = omega arith in (
       decimal-length 19 n (omega arith),

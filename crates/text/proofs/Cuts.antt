@@ -1,19 +1,59 @@
 -- Laws of a line's fields: how many there are, and that going on from the end of each field gives all of them in order.
-use Prim.Native.Nat.{ℕ, suc, ◌+◌, ◌-◌, ◌<◌, ◌≤◌}
+use Prim.Native.Nat.{ℕ, suc, ◌+◌, ◌-◌, ◌<◌, ◌≤◌, min}
 use native.Mathlib.Omega.{arith}
 use mathlib.Core.Bool.{Bool, true, false, cond}
 use mathlib.Core.List.{List, [], ◌∷◌}
 use mathlib.Core.Logic.{⊎_elim}
 use mathlib.Core.Path.{◌≡◌, refl, sym, ◌∙◌, ap, ap₂}
-use lib.Dec.{eqb}
-use lib.ListN.{length, take, drop, length-drop}
-use lib.Seq.{drop-drop}
-use borrow.Author.Tests.{eq-eqb, ne_eqb}
-use Rattle.std.specs.List.{count_by}
-use Rattle.std.proofs.lemmas.List.Recursion.{is_count_by}
+use lib.Dec.{eqb, ltb, leb}
+use lib.ListN.{length, take, drop, length-drop, drop_of_length-le}
+use lib.Seq.{drop-drop, take-length}
+use borrow.Author.Tests.{eq-eqb, ne_eqb, ltb-false, leb-true, leb-false}
+use Rattle.std.specs.List.{count_by, position, position_or_len}
+use Rattle.std.specs.Option.{unwrap_or}
+use Rattle.std.specs.Prelude.{Some, None}
+use Rattle.std.proofs.lemmas.List.Recursion.{is_count_by, is_position_or_len}
 use Rattle.octets.specs.Place.{part}
 use Rattle.octets.proofs.Order.{eq_or_not}
 use Rattle.text.specs.Fields.{upto, on_first, cut}
+
+-- the first field ends where the first separator stands
+pub upto_position : (c : ℕ) (l : List ℕ) → length (upto c l) ≡ position_or_len (λ x. eqb x c) l
+upto_position c l = is_position_or_len (λ (m : List ℕ). length (upto c m)) (λ x. eqb x c) refl first l
+  where
+    first : (x : ℕ) (m : List ℕ) → length (upto c (x ∷ m)) ≡ cond (eqb x c) 0 (1 + length (upto c m))
+    first x m = by_test (eqb x c)
+      where
+        by_test : (t : Bool) → length (cond t [] (x ∷ upto c m)) ≡ cond t 0 (1 + length (upto c m))
+        by_test true = refl
+        by_test false = omega arith
+
+upto_within : (c : ℕ) (l : List ℕ) → length (upto c l) ≤ length l
+upto_within c [] = omega arith
+upto_within c (x ∷ l) = by_test (eqb x c) (upto_within c l)
+  where
+    by_test : (t : Bool) → length (upto c l) ≤ length l → length (cond t [] (x ∷ upto c l)) ≤ length (x ∷ l)
+    by_test true h = omega arith
+    by_test false h = omega arith
+
+-- or where the line ends, if there is none
+pub ends_at : (c : ℕ) (l : List ℕ) → unwrap_or (position (λ x. eqb x c) l) (length l) ≡ length (upto c l)
+ends_at c l = rw (sym (upto_position c l)) (by_test (ltb (length (upto c l)) (length l)) refl)
+  where
+    by_test : (t : Bool) → ltb (length (upto c l)) (length l) ≡ t → unwrap_or (cond t (Some (length (upto c l))) None) (length l) ≡ length (upto c l)
+    by_test true e = refl
+    by_test false e = omega (arith, upto_within c l, ltb-false (length (upto c l)) (length l) e)
+
+-- what stands behind a place: nothing past the end
+pub behind : (s : List ℕ) (a m : ℕ) → m ≡ min a (length s) → take (length s - m) (drop m s) ≡ drop a s
+behind s a m e = ap (λ (n : ℕ). take n (drop m s)) (sym (length-drop m s)) ∙ take-length (drop m s) ∙ by_test (leb a (length s)) refl
+  where
+    by_test : (t : Bool) → leb a (length s) ≡ t → drop m s ≡ drop a s
+    by_test true f = let h : m ≡ a = omega (arith, leb-true a (length s) f) in ap (λ (n : ℕ). drop n s) h
+    by_test false f =
+        let h : length s ≤ a = omega (arith, leb-false a (length s) f) in
+        let k : length s ≤ m = omega arith in
+        drop_of_length-le s k ∙ sym (drop_of_length-le s h)
 
 -- there is at least one field
 cut_some : (c : ℕ) (l : List ℕ) → 0 < length (cut c l)

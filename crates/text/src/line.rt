@@ -20,7 +20,7 @@ fn write_packet(out: &mut [u8; 64], p: Packet) -> usize
 {
     let c = Cursor { at: 0, full: false };
     let c = add(out, c, b"type ");
-    let c = decimal(out, c, p.kind as u64);
+    let c = decimal(out, c, u64::from(p.kind));
     let c = add(out, c, b" id ");
     let c = hex8(out, c, p.id);
     let c = add(out, c, b" seq ");
@@ -37,7 +37,7 @@ fn write_refusal(out: &mut [u8; 64], r: Refusal) -> usize
 {
     let c = Cursor { at: 0, full: false };
     let c = add(out, c, b"refused ");
-    let c = decimal(out, c, r.number() as u64);
+    let c = decimal(out, c, u64::from(r.number()));
     let c = add(out, c, b"\n");
     c.at
 }

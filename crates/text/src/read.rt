@@ -1,4 +1,4 @@
-// Numbers and bytes out of text. What is no number is `None`; what is no bytes in hex is `Bad`.
+// Numbers and bytes out of text. What is no number is `None`; what is no bytes in hex, or does not fit, is an `UnhexError`.
 ghost use Rattle.std.specs.Prelude.{◌≡◌, true, ◌+◌, ◌*◌, ◌%◌, ◌<◌, ◌≤◌, length};
 ghost use Rattle.octets.specs.Place.{pasted};
 ghost use Rattle.text.specs.Digits.{worth, digits, pairs};
@@ -12,7 +12,8 @@ pub enum UnhexError {
 }
 
 // The digit that a character is, 16 where it is none.
-// No Option: 16 is no digit in any base up to 16, so one test against the base refuses both kinds of character.
+// No Option: `put_bytes` reads digits that `is_hex` has tested, since a bad text may change nothing, and would have to make up a byte for a `None`
+// that never comes. 16 is no digit in any base up to 16, so `read_number` still refuses both kinds of character by one test.
 #[tactic(auto, unfolding(crate::specs::Digits::worth))]
 fn read_digit(c: u8) -> u8
     ensures { result ≡ worth c }
@@ -24,7 +25,8 @@ fn read_digit(c: u8) -> u8
     }
 }
 
-// A number in a base from 2 to 16 that is at most `most`.
+// A number in a base from 2 to 16 that is at most `most`. By hand: std's `from_str_radix` takes a `+` in front and upper-case digits, which are no
+// number here (docs/RULES.md, 9.1 to 9.3).
 #[tactic(auto, using(crate::proofs::Reading::number_none, crate::proofs::Reading::number_some, crate::proofs::Reading::stop_none, crate::proofs::Reading::stop_over, crate::proofs::Reading::go_on, crate::proofs::Reading::at_end))]
 fn read_number(s: &[u8], base: u8, most: u64) -> Option<u64>
     requires { (0 < base) × (base ≤ 16) }
@@ -39,8 +41,8 @@ fn read_number(s: &[u8], base: u8, most: u64) -> Option<u64>
         if base <= d {
             return None;
         }
-        let w = v.checked_mul(base as u64)?;
-        v = w.checked_add(d as u64)?;
+        let w = v.checked_mul(u64::from(base))?;
+        v = w.checked_add(u64::from(d))?;
         if most < v {
             return None;
         }
@@ -64,7 +66,7 @@ pub fn unhex8(s: &[u8]) -> Option<u32>
         return None;
     }
     let v = read_number(s, 16, 0xffff_ffff)?;
-    Some(v as u32)
+    u32::try_from(v).ok()
 }
 
 // Whether each character is a hex digit.

@@ -7,12 +7,11 @@ ghost use Rattle.text.specs.Fields.{upto, cut};
 pub fn field_end(line: &[u8], from: usize, separator: u8) -> usize
     ensures { result ≡ from + length (upto separator (drop from line.now)) }
 {
-    for at in from..line.len() {
-        if line[at] == separator {
-            return at;
-        }
-    }
-    line.len().max(from)
+    let rest = &line[from.min(line.len())..];
+    from + rest
+        .iter()
+        .position(|c| *c == separator)
+        .unwrap_or(rest.len())
 }
 
 // How many fields the line has: one more than separators.

@@ -21,21 +21,20 @@ fn has_room(c: Cursor, m: usize, n: usize) -> bool
 }
 
 // Adds bytes as they are.
-// No method: the buffer stays with its owner between two calls, so a call names both either way, and `c.add(out, s)` is no
-// plainer than `add(out, c, s)`.
+// Buffer and cursor stay two, and no struct holds both: `AddPromise` speaks of the cursor that comes back and of what the buffer holds then. A struct
+// that holds a `&mut` buffer hides both behind its field, and every public promise here and in `cases`, which docs/PROMISES.md names, would change.
 #[tactic(auto, unfolding(crate::specs::Promise::takes, octets::specs::Place::placed))]
 pub fn add(out: &mut [u8], c: Cursor, s: &[u8]) -> Cursor
     ensures { AddPromise out.old c s.now result out.new }
 {
-    let at = c.at;
-    if has_room(c, out.len(), s.len()) {
-        octets::put(out, at, s);
-        return Cursor {
-            at: at + s.len(),
-            full: false,
-        };
+    if !has_room(c, out.len(), s.len()) {
+        return Cursor { full: true, ..c };
     }
-    Cursor { at, full: true }
+    octets::put(out, c.at, s);
+    Cursor {
+        at: c.at + s.len(),
+        ..c
+    }
 }
 
 // The character of a digit below 16.
@@ -47,6 +46,7 @@ fn spell_digit(d: u8) -> u8
     if d < 10 { 48 + d } else { 87 + d }
 }
 
+// By hand, as hex below: std's `fmt` writes numbers too, but no promise of std tells the bytes that it writes, and `AddPromise` tells each.
 // Puts n in decimal at the end of the twenty bytes, which any u64 fits, and answers where it starts.
 fn put_decimal(out: &mut [u8; 20], n: u64) -> usize
     ensures { (result ≤ length out.new) × (drop result out.new ≡ decimal n) }
@@ -90,16 +90,12 @@ fn put_hex(out: &mut [u8], at: usize, s: &[u8])
 pub fn hex(out: &mut [u8], c: Cursor, s: &[u8]) -> Cursor
     ensures { AddPromise out.old c (hex s.now) result out.new }
 {
-    let at = c.at;
     let n = 2 * s.len();
-    if has_room(c, out.len(), n) {
-        put_hex(out, at, s);
-        return Cursor {
-            at: at + n,
-            full: false,
-        };
+    if !has_room(c, out.len(), n) {
+        return Cursor { full: true, ..c };
     }
-    Cursor { at, full: true }
+    put_hex(out, c.at, s);
+    Cursor { at: c.at + n, ..c }
 }
 
 // Adds a number as eight hex digits.
@@ -107,5 +103,5 @@ pub fn hex(out: &mut [u8], c: Cursor, s: &[u8]) -> Cursor
 pub fn hex8(out: &mut [u8], c: Cursor, n: u32) -> Cursor
     ensures { AddPromise out.old c (hex8 n) result out.new }
 {
-    hex(out, c, &octets::be::<4>(n as u64))
+    hex(out, c, &octets::be::<4>(u64::from(n)))
 }

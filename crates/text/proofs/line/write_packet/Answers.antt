@@ -26,12 +26,13 @@ returns c =
     let p = a.p in
     let d = a.out.now in
     let h : 64 ≤ length d = omega (arith, c.told-out) in
-    let s : length (decimal p.kind) ≤ 3 = decimal-length 2 p.kind (omega arith) in
+    let n = c.from.result in
+    let s : length (decimal n) ≤ 3 = decimal-length 2 n (omega arith) in
     let t : length (decimal p.len) ≤ 20 = decimal-length 19 p.len (omega arith) in
     let u : length (hex8 p.id) ≤ 8 = omega (arith, length-hex8 p.id) in
     let v : length (hex8 p.seq) ≤ 8 = omega (arith, length-hex8 p.seq) in
     let w₁ = wrote_more 0 5 [] d type_word _ _ _ _ (wrote_none d) add.ensures (lit≤ tt) (omega (arith, h)) in
-    let w₂ = wrote_more 5 3 _ d (decimal p.kind) _ _ _ _ w₁ decimal-fact.ensures s (omega (arith, h)) in
+    let w₂ = wrote_more 5 3 _ d (decimal n) _ _ _ _ w₁ decimal-fact.ensures s (omega (arith, h)) in
     let w₃ = wrote_more 8 4 _ d id_word _ _ _ _ w₂ add2.ensures (lit≤ tt) (omega (arith, h)) in
     let w₄ = wrote_more 12 8 _ d (hex8 p.id) _ _ _ _ w₃ hex8-fact.ensures u (omega (arith, h)) in
     let w₅ = wrote_more 20 5 _ d seq_word _ _ _ _ w₄ add3.ensures (lit≤ tt) (omega (arith, h)) in
@@ -39,4 +40,4 @@ returns c =
     let w₇ = wrote_more 33 9 _ d payload_word _ _ _ _ w₆ add4.ensures (lit≤ tt) (omega (arith, h)) in
     let w₈ = wrote_more 42 20 _ d (decimal p.len) _ _ _ _ w₇ decimal2.ensures t (omega (arith, h)) in
     let w₉ = wrote_more 62 1 _ d newline _ _ _ _ w₈ add5.ensures (lit≤ tt) (omega (arith, h)) in
-    wrote_all 63 _ d _ _ w₉ (omega (arith, h))
+    rw c.from.ensures at (wrote_all 63 _ d _ _ w₉ (omega (arith, h)))

@@ -15,21 +15,6 @@ pub struct Arrivals {
     pub seen: u32,
 }
 
-// Whether a number is too old to be taken, marked or not: zero, or more than 31 below the highest.
-#[tactic(auto, unfolding(crate::specs::Take::too_old))]
-fn is_too_old(a: Arrivals, n: u32) -> bool
-    ensures { result ≡ too_old a n }
-{
-    n == 0 || a.highest.saturating_sub(n) > 31
-}
-
-#[tactic(auto, unfolding(crate::specs::Marks::marked, crate::specs::Marks::mark_of))]
-fn is_marked(a: Arrivals, n: u32) -> bool
-    ensures { result ≡ marked a n }
-{
-    n <= a.highest && a.highest - n <= 31 && (a.seen >> (a.highest - n)) & 1 == 1
-}
-
 // The marks of a record whose highest number rises by `d`, which is then marked itself.
 #[tactic(auto, using(crate::proofs::Taking::moved_near))]
 fn move_up(seen: u32, d: u32) -> u32
@@ -39,25 +24,6 @@ fn move_up(seen: u32, d: u32) -> u32
         return 1;
     }
     (seen << d) | 1
-}
-
-// The record with a number that it takes.
-#[tactic(auto, using(crate::proofs::Taking::taken_above, crate::proofs::Taking::taken_below, crate::proofs::Taking::young))]
-fn mark(a: Arrivals, n: u32) -> Arrivals
-    requires { too_old a n ≡ false }
-    ensures { result ≡ taken a n }
-{
-    if a.highest < n {
-        return Arrivals {
-            highest: n,
-            seen: move_up(a.seen, n - a.highest),
-        };
-    }
-    let k = a.highest - n;
-    Arrivals {
-        highest: a.highest,
-        seen: a.seen | (1 << k),
-    }
 }
 
 impl Arrivals {
@@ -71,18 +37,52 @@ impl Arrivals {
         }
     }
 
+    // Whether a number is too old to be taken, marked or not: zero, or more than 31 below the highest.
+    #[tactic(auto, unfolding(crate::specs::Take::too_old))]
+    fn is_too_old(self, n: u32) -> bool
+        ensures { result ≡ too_old self n }
+    {
+        n == 0 || self.highest.saturating_sub(n) > 31
+    }
+
+    #[tactic(auto, unfolding(crate::specs::Marks::marked, crate::specs::Marks::mark_of))]
+    fn is_marked(self, n: u32) -> bool
+        ensures { result ≡ marked self n }
+    {
+        n <= self.highest && self.highest - n <= 31 && (self.seen >> (self.highest - n)) & 1 == 1
+    }
+
+    // The record with a number that it takes.
+    #[tactic(auto, using(crate::proofs::Taking::taken_above, crate::proofs::Taking::taken_below, crate::proofs::Taking::young))]
+    fn mark(self, n: u32) -> Arrivals
+        requires { too_old self n ≡ false }
+        ensures { result ≡ taken self n }
+    {
+        if self.highest < n {
+            return Arrivals {
+                highest: n,
+                seen: move_up(self.seen, n - self.highest),
+            };
+        }
+        let k = self.highest - n;
+        Arrivals {
+            highest: self.highest,
+            seen: self.seen | (1 << k),
+        }
+    }
+
     // The record with a number that it takes; where the number is refused the record stays as it was.
     #[tactic(auto, unfolding(crate::specs::Take::take_of, refusal::specs::Order::need))]
     pub fn take(self, n: u32) -> Result<Arrivals, Refusal>
         ensures { TakePromise self n result }
     {
-        if is_too_old(self, n) {
+        if self.is_too_old(n) {
             return Err(Refusal::TooOld);
         }
-        if is_marked(self, n) {
+        if self.is_marked(n) {
             return Err(Refusal::AlreadyTaken);
         }
-        Ok(mark(self, n))
+        Ok(self.mark(n))
     }
 
     // How many of the 32 marks are set: of a record that began as a new one, how many of the last 32 numbers were taken.

@@ -24,14 +24,14 @@ pub fn xtime(x: u8) -> u8
 pub fn sub_byte(x: u8) -> u8
     ensures { result ≡ sub_byte x }
 {
-    SBOX[x as usize]
+    SBOX[usize::from(x)]
 }
 
 // The inverse substitution of a byte.
 pub fn inv_sub_byte(x: u8) -> u8
     ensures { result ≡ unsub_byte x }
 {
-    INV_SBOX[x as usize]
+    INV_SBOX[usize::from(x)]
 }
 
 // The substitution of each byte of a block.

@@ -3,4 +3,4 @@ use Rattle.sbox.proofs.Table.{unsbox_rule}
 use Rattle.sbox.proofs.inv_sub_byte.Goals as goal
 
 pub returns : goal.returns
-returns c = unsbox_rule c.args.x c.ranges.x.fits
+returns c = rw c.from.ensures (unsbox_rule c.args.x c.ranges.x.fits)

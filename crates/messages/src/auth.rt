@@ -106,7 +106,8 @@ impl TryFrom<u8> for ConfidentialityAlgorithm {
     }
 }
 
-// Whether a byte is a privilege level.
+// Whether a byte is a privilege level. Levels stay bytes: Begin takes any byte and refuses one that is no level with 19 and that byte, and
+// `open_request` and `response_numbers` (specs/OpenSession) promise the byte.
 #[tactic(auto, unfolding(crate::specs::Auth::is_level))]
 pub fn is_level(b: u8) -> bool
     ensures { result ≡ is_level b }

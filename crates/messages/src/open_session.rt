@@ -12,7 +12,7 @@ use crate::{auth, rakp};
 use refusal::Refusal;
 
 // The lengths of the request and of the response.
-const REQUEST_LEN: usize = 32;
+pub const REQUEST_LEN: usize = 32;
 
 const RESPONSE_LEN: usize = 36;
 
@@ -75,9 +75,10 @@ impl OpenSessionRequest {
             return Err(Refusal::OutputTooShort);
         }
         let level = self.level.unwrap_or(0);
+        let head = rakp::make_head(self.tag, level, self.console);
         rakp::put_pieces(
             out,
-            &rakp::make_head(self.tag, level, 0, 0, self.console),
+            &head,
             &AlgorithmPayload::Authentication(self.authentication).write(),
             &AlgorithmPayload::Integrity(self.integrity).write(),
             &AlgorithmPayload::Confidentiality(self.confidentiality).write(),

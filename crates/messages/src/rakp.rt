@@ -1,4 +1,4 @@
-// What the messages have in common: their answers, statuses with a name, the first eight bytes.
+// What the messages have in common: statuses with a name, the first eight bytes, the pieces that a writer puts.
 ghost use Rattle.std.specs.Prelude.{◌≡◌, ◌+◌, ◌≤◌, ◌∷◌, ◌++◌, length};
 ghost use Rattle.refusal.specs.Table.{number_of, value_of, among};
 ghost use Rattle.octets.specs.Number.{le};
@@ -18,12 +18,13 @@ pub struct Place {
 }
 
 // How many bytes stand in front in every message that we write: four and an id.
-pub(crate) const HEAD: usize = 8;
+pub const HEAD: usize = 8;
 
 // Statuses that have a name in every message.
 const COMMON: [u8; 3] = [0x01, 0x02, 0x12];
 
-// Whether b is in the list.
+// Whether b is in the list. A function of its own: with the two `contains` in the `if` below, or in a `let` before it, and the law `listed` named,
+// the check did not find the proof that the number is `status_number`.
 fn is_listed(b: u8, list: &[u8]) -> bool
     ensures { result ≡ among b list.now }
 {
@@ -68,15 +69,16 @@ pub(crate) fn check_head(
     Ok(())
 }
 
-// Four bytes and an id, as every message that we write begins.
-pub(crate) fn make_head(a: u8, b: u8, c: u8, d: u8, id: u32) -> [u8; 8]
-    ensures { result ≡ a ∷ b ∷ c ∷ d ∷ le 4 id }
+// How every message that we write begins: the tag, the request's level or the status, two reserved bytes, an id.
+pub(crate) fn make_head(tag: u8, level_or_status: u8, id: u32) -> [u8; HEAD]
+    ensures { result ≡ tag ∷ level_or_status ∷ 0 ∷ 0 ∷ le 4 id }
 {
     let n = octets::le::<4>(u64::from(id));
-    [a, b, c, d, n[0], n[1], n[2], n[3]]
+    [tag, level_or_status, 0, 0, n[0], n[1], n[2], n[3]]
 }
 
-// Four pieces of a message, one after another from the output's start.
+// Four pieces of a message, one after another from the output's start. Four parameters and no slice of slices: that would take a loop with an
+// invariant, a definition of what the pieces make together (`joined` is of hmac, below which this crate stands) and its laws, for four lines.
 pub(crate) fn put_pieces(out: &mut [u8], first: &[u8], second: &[u8], third: &[u8], fourth: &[u8])
     requires { length first.now + length second.now + length third.now + length fourth.now ≤ length out.old }
     ensures { out.new ≡ begun (first.now ++ second.now ++ third.now ++ fourth.now) out.old }

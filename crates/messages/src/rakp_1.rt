@@ -8,7 +8,7 @@ use crate::rakp;
 use refusal::Refusal;
 
 // Where the name stands: behind the head, the random number and the role's four bytes.
-const NAME_AT: usize = 28;
+pub const NAME_AT: usize = 28;
 
 // How many bytes a name may have.
 const LONGEST_NAME: usize = 16;
@@ -46,7 +46,7 @@ impl Username {
     }
 }
 
-// How many bytes the name has.
+// How many bytes the name has. Every length may be given here (rule 7.12), so the code cannot take `len` as it stands.
 fn count_name(u: Username) -> usize
     ensures { (result ≡ length (name_of u)) × (result ≤ 16) × (take result u.bytes ≡ name_of u) }
 {
@@ -66,17 +66,16 @@ impl RakpMessage1 {
     pub fn write(self, out: &mut [u8]) -> Result<usize, Refusal>
         ensures { WritePromise (message1 self) out.old result out.new }
     {
-        let name = self.username;
-        let n = count_name(name);
+        let n = count_name(self.username);
         if out.len() < NAME_AT + n {
             return Err(Refusal::OutputTooShort);
         }
         rakp::put_pieces(
             out,
-            &rakp::make_head(self.tag, 0, 0, 0, self.system),
+            &rakp::make_head(self.tag, 0, self.system),
             &self.random,
             &[self.role, 0, 0, n as u8],
-            &name.bytes[..n],
+            &self.username.bytes[..n],
         );
         Ok(NAME_AT + n)
     }

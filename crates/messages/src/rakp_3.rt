@@ -22,7 +22,7 @@ impl RakpMessage3 {
         if out.len() < rakp::HEAD || out.len() - rakp::HEAD < code.len() {
             return Err(Refusal::OutputTooShort);
         }
-        let head = rakp::make_head(self.tag, 0, 0, 0, self.system);
+        let head = rakp::make_head(self.tag, 0, self.system);
         octets::put(out, 0, &head);
         octets::put(out, rakp::HEAD, code);
         Ok(rakp::HEAD + code.len())
@@ -32,7 +32,7 @@ impl RakpMessage3 {
     pub fn decline(self, out: &mut [u8]) -> Result<usize, Refusal>
         ensures { WritePromise (declined3 self) out.old result out.new }
     {
-        let head = rakp::make_head(self.tag, DECLINED, 0, 0, self.system);
+        let head = rakp::make_head(self.tag, DECLINED, self.system);
         if !octets::put(out, 0, &head) {
             return Err(Refusal::OutputTooShort);
         }

@@ -38,12 +38,7 @@ fn check_message(state: Record, message: &[u8]) -> Result<(), Refusal>
     ensures { told result ≡ done (heard_four state message.now) }
 {
     let f = RakpMessage4::from_data(message)?;
-    if f.tag != TAG_3 {
-        return Err(Refusal::MessageTagMismatch);
-    }
-    if f.id != state.begun.console {
-        return Err(Refusal::SessionIdMismatch);
-    }
+    state::check_ids(state, TAG_3, f.tag, f.id)?;
     if !octets::same(&message[f.value.at..], &compute_value(state)) {
         return Err(Refusal::InvalidIntegrityCheckValue);
     }

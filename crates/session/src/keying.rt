@@ -12,6 +12,7 @@ ghost use Rattle.session.specs.Promise.{StepPromise};
 use crate::{Record, Step, Stepped, TAG_1, TAG_3, state};
 use keys::Keys;
 use keys::state::Named;
+use messages::rakp::HEAD;
 use messages::rakp_2::RakpMessage2;
 use messages::rakp_3::RakpMessage3;
 use refusal::Refusal;
@@ -26,7 +27,7 @@ const LONGEST_PASSWORD: usize = 255;
 const CODE_LEN: usize = 20;
 
 // How many bytes message 3 has, with its code.
-const MESSAGE_3_LEN: usize = 8 + CODE_LEN;
+const MESSAGE_3_LEN: usize = HEAD + CODE_LEN;
 
 // Whether a Kg has its length, or none was lent.
 fn is_legal_kg(n: usize) -> bool
@@ -62,12 +63,7 @@ fn read_message(state: Record, message: &[u8]) -> Result<RakpMessage2, Refusal>
     ensures { told_as (λ f. f) result ≡ heard_two state message.now }
 {
     let f = RakpMessage2::from_data(message)?;
-    if f.tag != TAG_1 {
-        return Err(Refusal::MessageTagMismatch);
-    }
-    if f.console != state.begun.console {
-        return Err(Refusal::SessionIdMismatch);
-    }
+    state::check_ids(state, TAG_1, f.tag, f.console)?;
     if f.code.len != CODE_LEN {
         return Err(Refusal::InvalidKeyExchangeAuthCodeLen);
     }
@@ -103,7 +99,8 @@ fn decline(state: Record, out: &mut [u8]) -> Stepped
     }
 }
 
-// Role byte and name of the user, which every code covers.
+// Role byte and name of the user, which every code covers. The name goes through a variable: the borrow checker does not take an array that is
+// read from a field into a literal straight.
 #[tactic(auto, unfolding(crate::specs::Steps::who, messages::specs::Name::name_of))]
 fn name_user(state: Record) -> Named
     ensures { named_of result ≡ who state }
@@ -118,10 +115,10 @@ fn name_user(state: Record) -> Named
 
 // Message 3 where the system knows the password, else the message that declines. What shows it is the code at message 2's end, compared over
 // all of its bytes. `f` names the code's place and holds none of its bytes, so the message comes beside it, here and in no other function.
-fn answer_message<'a>(
+fn answer_message(
     state: Record,
-    kg: &'a [u8],
-    password: &'a [u8],
+    kg: &[u8],
+    password: &[u8],
     message: &[u8],
     f: RakpMessage2,
     out: &mut [u8],
@@ -160,6 +157,7 @@ fn answer_message<'a>(
 }
 
 // Takes message 2; password and Kg (empty for none) are lent here alone. Writes message 3, or the message that declines.
+// The two keep their common lifetime: `TwoCall` (proofs/Calls) counts the lifetimes of this call.
 pub fn message_2<'a>(
     state: Record,
     kg: &'a [u8],

@@ -10,12 +10,9 @@ ghost use Rattle.session.specs.Promise.{StepPromise};
 
 use crate::{Asked, Begun, Lookup, OPEN_TAG, Record, Step, Stepped, state};
 use messages::auth::{AuthenticationAlgorithm, ConfidentialityAlgorithm, IntegrityAlgorithm};
-use messages::open_session::OpenSessionRequest;
+use messages::open_session::{OpenSessionRequest, REQUEST_LEN};
 use messages::rakp_1::Username;
 use refusal::Refusal;
-
-// How many bytes the request has.
-const REQUEST_LEN: usize = 32;
 
 // The level of the role where none was asked for.
 const ADMINISTRATOR: u8 = 0x04;
@@ -37,7 +34,7 @@ fn check_asked(asked: Asked) -> Result<(), Refusal>
     }
 }
 
-// The role that message 1 and the codes have.
+// The role that message 1 and the codes have. A sum and no `|`: `role_of` (specs/Role) promises the sum, and the tested level leaves the bit free.
 #[tactic(auto, unfolding(crate::specs::Role::role_of, messages::specs::Auth::is_level))]
 fn make_role(level: Option<u8>, lookup: Lookup) -> u8
     requires { level_allowed level ≡ true }

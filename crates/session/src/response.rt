@@ -12,12 +12,9 @@ ghost use Rattle.session.specs.Promise.{StepPromise};
 use crate::{Agreed, OPEN_TAG, Record, Step, Stepped, TAG_1, state};
 use messages::auth::{AuthenticationAlgorithm, ConfidentialityAlgorithm, IntegrityAlgorithm};
 use messages::open_session::OpenSessionResponse;
-use messages::rakp_1::{RakpMessage1, Username};
+use messages::rakp_1::{NAME_AT, RakpMessage1};
 use refusal::Refusal;
 use suite::{Confidentiality, Integrity};
-
-// How many bytes message 1 has before the name.
-const UP_TO_NAME: usize = 28;
 
 // What is tested before the message is looked at.
 #[tactic(auto, using(crate::proofs::Chains::in_len), unfolding(crate::specs::Steps::ready_open, refusal::specs::Order::need))]
@@ -27,7 +24,7 @@ fn check_call(state: Record, room: usize) -> Result<(), Refusal>
     if !state::is_in_step(state, Step::OpenResponse) {
         return Err(Refusal::WrongStep);
     }
-    if room < UP_TO_NAME + state.begun.username.len {
+    if room < NAME_AT + state.begun.username.len {
         return Err(Refusal::OutputTooShort);
     }
     Ok(())
@@ -55,12 +52,7 @@ fn read_response(state: Record, message: &[u8]) -> Result<OpenSessionResponse, R
     ensures { told_open result ≡ heard_open state message.now }
 {
     let r = OpenSessionResponse::from_data(message)?;
-    if r.tag != OPEN_TAG {
-        return Err(Refusal::MessageTagMismatch);
-    }
-    if r.console != state.begun.console {
-        return Err(Refusal::SessionIdMismatch);
-    }
+    state::check_ids(state, OPEN_TAG, r.tag, r.console)?;
     if !is_carried(r) {
         return Err(Refusal::AlgorithmNotCarried);
     }

@@ -1,5 +1,8 @@
-// Records: a closed one, in which step one is, and the session that an open one becomes.
-ghost use Rattle.std.specs.Prelude.{◌≡◌};
+// Records: a closed one, in which step one is, and the session that an open one becomes. What is done with a record stays functions, each in the
+// file of its step: as methods they would stand in five blocks of `impl Record`, and a caller would write as much.
+ghost use Rattle.std.specs.Prelude.{◌≡◌, eqb};
+ghost use Rattle.refusal.specs.Order.{accept, need};
+ghost use Rattle.refusal.specs.Answer.{told};
 ghost use Rattle.session.specs.Record.{step_number, in_step, closed};
 ghost use Rattle.session.specs.Promise.{SessionPromise};
 ghost use Rattle.session.specs.Parts.{refused_at};
@@ -18,8 +21,8 @@ pub(crate) fn is_in_step(state: Record, step: Step) -> bool
     state.step == step && state.begun.username.len <= 16
 }
 
-// A closed record holds only zeros: no keys, as before message 2, and no algorithm, as before the open response. The zeros are written out, since
-// `Default` would have to be derived for types of three other crates, none of which need it.
+// A closed record holds only zeros: no keys, as before message 2, and no algorithm, as before the open response. The zeros are written out and not
+// derived by `Default`: keys of zeros ought to have no name as short as `Keys::default()`, for whoever wrote it could open a session with them.
 #[tactic(auto, unfolding(crate::specs::Record::closed, crate::specs::Record::none_begun, crate::specs::Record::no_keys, crate::specs::Record::none_agreed))]
 pub(crate) fn make_closed() -> Record
     ensures { result ≡ closed }
@@ -47,6 +50,20 @@ pub(crate) fn make_closed() -> Record
             integrity: Integrity::None,
         },
     }
+}
+
+// The tests on what stands in front of every answer: the tag of the message that it answers, then our own id.
+#[tactic(auto, unfolding(refusal::specs::Order::need))]
+pub(crate) fn check_ids(state: Record, asked: u8, tag: u8, id: u32) -> Result<(), Refusal>
+    ensures { told result ≡ need (eqb tag asked) 27 0 (need (eqb id state.begun.console) 28 0 (accept tt)) }
+{
+    if tag != asked {
+        return Err(Refusal::MessageTagMismatch);
+    }
+    if id != state.begun.console {
+        return Err(Refusal::SessionIdMismatch);
+    }
+    Ok(())
 }
 
 // A refusal that wrote nothing, beside the record that it leaves.

@@ -12,7 +12,7 @@ returns-then-out-lt-REQUEST_LEN c = write_no (open_request c.args.self) c.args.o
 pub returns : goal.returns
 unfolding open_request
 returns c =
-    let h = c.make_head.ensures in
+    let h = c.make_head-head.ensures in
     let l = c.unwrap_or-level.ensures in
     write_yes (open_request c.args.self) c.args.out.now 32 _ (omega arith) refl
     (c.put_pieces.ensures ∙ rw (h, l, c.write.ensures, c.write-2.ensures, c.write-3.ensures))

@@ -34,7 +34,8 @@ fn check_pad(x: &[u8], a: usize, p: usize) -> bool
         .all(|(b, i)| usize::from(*b) == i)
 }
 
-// The last t bytes of the plain text of an encrypted body; past them zeros.
+// The last t bytes of the plain text of an encrypted body; past them zeros. A whole array, since there is no heap for t bytes: the caller,
+// who chose t, looks at those alone. Whole blocks are a test of the length here, as in cbc's promise: a name for it would be opened in each proof.
 fn decrypt_tail(w: Aes128, body: &[u8], t: usize) -> [u8; 256]
     requires { (length body.now % 16 ≡ 0) × (t % 16 ≡ 0) × (t ≤ 256) × (t + 16 ≤ length body.now) }
     ensures { take t result

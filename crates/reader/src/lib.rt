@@ -1,11 +1,12 @@
 // Every check of a packet, stage by stage, before a byte changes: each stage answers what its definition says.
 #![tactic(auto)]
 
-ghost use Rattle.std.specs.Prelude.{◌≡◌, cond, ◌≤◌, ◌<◌, length, take};
+ghost use Rattle.std.specs.Prelude.{◌≡◌, cond, ◌/◌, ◌%◌, ◌≤◌, ◌<◌, length, take};
 ghost use Rattle.refusal.specs.Order.{accept};
 ghost use Rattle.running.specs.Promise.{limit};
 ghost use Rattle.framing.specs.Read.{head_of, trailer_of, before_trailer, body_in, payload_behind, rest_of};
 ghost use Rattle.framing.specs.Read.{read_with, read_of, has_code, blocks_with, blocks_of, Computed};
+ghost use Rattle.framing.specs.Packet.{bit};
 ghost use Rattle.framing.specs.Told.{counted, shown};
 ghost use Rattle.suite.specs.Types.{type_number};
 ghost use Rattle.suite.specs.Session.{suite_of};
@@ -17,7 +18,8 @@ use suite::{Code, PayloadType, SubState};
 
 mod body;
 
-// What reading a packet finds: type, ids and the payload's length.
+// What reading a packet finds: type, ids and the payload's length. A length and no slice: the payload is there to be read once the packet
+// was opened in its own buffer, which a slice would hold lent; with the length frame's `payload` finds it.
 #[derive(Clone, Copy)]
 pub struct Accepted {
     pub ty: PayloadType,
@@ -36,6 +38,13 @@ pub struct Read {
 // Session and packet stay two arguments: a stage hands the session on beside a shorter packet, so one value for both would be
 // built anew at every stage.
 
+// Whether the flags of a packet say that it ends with a code. The bit above needs no such function: the check finds that proof alone.
+fn has_code_bit(flags: u8) -> bool
+    ensures { bit result ≡ flags / 64 % 2 }
+{
+    flags & 0x40 != 0
+}
+
 // The checks that need no code: first byte, type, the two bits, the ceiling.
 #[tactic(auto, unfolding(framing::specs::Read::head_of, refusal::specs::Order::need))]
 fn check_head(s: SubState, packet: &[u8]) -> Result<PayloadType, Refusal>
@@ -48,11 +57,11 @@ fn check_head(s: SubState, packet: &[u8]) -> Result<PayloadType, Refusal>
         return Err(Refusal::NotIpmiV2_0);
     }
     let flags = packet[1];
-    let ty = PayloadType::try_from(flags % 64)?;
-    if flags / 128 % 2 != u8::from(suite::encrypts(s.confidentiality)) {
+    let ty = PayloadType::try_from(flags & 0x3f)?;
+    if (flags & 0x80 != 0) != suite::encrypts(s.confidentiality) {
         return Err(Refusal::MismatchingEncryptionState);
     }
-    if flags / 64 % 2 != u8::from(suite::carries_code(s.integrity)) {
+    if has_code_bit(flags) != suite::carries_code(s.integrity) {
         return Err(Refusal::MismatchingAuthenticationState);
     }
     if packet.len() > suite::find_longest_packet(s) {
@@ -105,7 +114,7 @@ fn check_body(s: SubState, left: &[u8]) -> Result<usize, Refusal>
     if left.len() < 12 {
         return Err(Refusal::NotEnoughData);
     }
-    let n = octets::load_le2(left, 10) as usize;
+    let n = usize::from(octets::load_le2(left, 10));
     if n != left.len() - 12 {
         return Err(Refusal::IncorrectPayloadLen);
     }
@@ -164,9 +173,8 @@ fn read_behind_head(s: SubState, ty: PayloadType, packet: &[u8]) -> Read
 {
     let m = suite::code_len(s.integrity);
     let c = expect_code(s, packet);
-    let code = c.code;
     Read {
-        answer: read_rest(s, ty, &code[..m], packet),
+        answer: read_rest(s, ty, &c.code[..m], packet),
         blocks: c.blocks,
     }
 }
@@ -194,7 +202,7 @@ fn tell_blocks(s: SubState, blocks: u32, packet: &[u8]) -> u32
 }
 
 // The same checks for a caller who has computed the code that the packet ought to end with: it is handed in, with the blocks that
-// it took.
+// it took. The two are no `Code`: that holds a whole digest, and the code handed in is any slice.
 #[tactic(auto, unfolding(framing::specs::Read::read_with, framing::specs::Read::blocks_with, framing::specs::Read::compares_code, framing::specs::Told::shown, refusal::specs::Order::and_then))]
 pub fn read_with_code(s: SubState, code: &[u8], blocks: u32, packet: &[u8]) -> Read
     ensures { Tells (read_with (suite_of s) code.now packet.now)

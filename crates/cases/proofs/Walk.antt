@@ -2,11 +2,13 @@
 use Prim.Native.Nat.{ℕ, zero, suc, ◌+◌, ◌-◌, ◌≤◌, ◌<◌}
 use native.Mathlib.Omega.{arith}
 use native.Mathlib.Numerals.{add-one}
-use mathlib.Core.Bool.{Bool, true, false}
+use mathlib.Core.Bool.{Bool, true, false, ◌&&◌}
 use mathlib.Core.List.{List, [], ◌∷◌}
 use mathlib.Core.Logic.{◌⊎◌, inl, inr, ⊎_elim}
 use mathlib.Core.Path.{◌≡◌, refl, sym, ◌∙◌, ap}
 use lib.ListN.{length, get_or, take, drop, length-drop, length-take, drop_of_length-le}
+use lib.Dec.{eqb}
+use lib.Pointwise.{pointwise}
 use lib.Seq.{drop-cons, drop-drop, get_or-drop}
 use borrow.Author.Tests.{lt-ltb, le-ltb}
 use Rattle.octets.specs.Equal.{same}
@@ -158,6 +160,13 @@ module _ (s : List ℕ) (ws : List (List ℕ)) (k : ℕ) (p : place_of s ws ≡ 
       let o : place_of s (drop (suc k) ws) ≡ place_of s (drop (k + 1) ws) = ap (λ (j : ℕ). place_of s (drop j ws)) (sym (add-one k)) in
       omega arith
 
+-- std's `==` of lists of bytes says the same as `same`
+same_eq : (f s : List ℕ) → pointwise eqb f s ≡ same f s
+same_eq [] [] = refl
+same_eq [] (y ∷ s) = refl
+same_eq (x ∷ f) [] = refl
+same_eq (x ∷ f) (y ∷ s) = ap (λ (t : Bool). eqb x y && t) (same_eq f s)
+
 -- what the comparison with a field told
-pub word_found : (f w s : List ℕ) (t u : Bool) → f ≡ w → t ≡ same f s → t ≡ u → same w s ≡ u
-word_found f w s t u e g h = ap (λ (q : List ℕ). same q s) (sym e) ∙ sym g ∙ h
+pub word_found : (f w s : List ℕ) (t u : Bool) → f ≡ w → t ≡ pointwise eqb f s → t ≡ u → same w s ≡ u
+word_found f w s t u e g h = ap (λ (q : List ℕ). same q s) (sym e) ∙ sym (g ∙ same_eq f s) ∙ h

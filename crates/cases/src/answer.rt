@@ -31,7 +31,7 @@ pub fn say_number(out: &mut [u8], c: Cursor, word: &[u8], n: u32) -> Cursor
     ensures { SayPromise out.old c (word.now ∷ decimal n ∷ []) result out.new }
 {
     let c = text::add(out, c, word);
-    text::decimal(out, c, n as u64)
+    text::decimal(out, c, u64::from(n))
 }
 
 // A word and a number as eight hex digits.
@@ -47,9 +47,9 @@ pub fn say_id(out: &mut [u8], c: Cursor, word: &[u8], n: u32) -> Cursor
 pub fn say_refusal(out: &mut [u8], c: Cursor, r: Refusal) -> Cursor
     ensures { SayPromise out.old c (refusal_pieces r) result out.new }
 {
-    let c = say_number(out, c, b"refused ", r.number() as u32);
+    let c = say_number(out, c, b"refused ", u32::from(r.number()));
     match r.value() {
-        Some(v) => say_number(out, c, b" ", v as u32),
+        Some(v) => say_number(out, c, b" ", u32::from(v)),
         None => c,
     }
 }

@@ -21,24 +21,22 @@ pub struct Input {
 pub fn gather(s: Input, piece: &[u8], line: &mut [u8]) -> Input
     ensures { GatherPromise s piece.now line.old result line.new }
 {
-    let from = s.from;
-    let to = s.to;
-    let left = pick_part(piece, from, to);
+    let left = pick_part(piece, s.from, s.to);
     let n = text::field_end(left, 0, b'\n');
     let c = text::add(line, s.line, pick_part(left, 0, n));
     if n < left.len() {
         return Input {
-            from: from + n + 1,
-            to,
+            from: s.from + n + 1,
             line: c,
             whole: true,
+            ..s
         };
     }
     Input {
-        from: to,
-        to,
+        from: s.to,
         line: c,
         whole: false,
+        ..s
     }
 }
 

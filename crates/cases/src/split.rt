@@ -3,7 +3,7 @@ ghost use Rattle.std.specs.Prelude.{◌≡◌, ◌+◌};
 ghost use Rattle.text.specs.Fields.{cut};
 ghost use Rattle.cases.specs.Fields.{part_of, part_at, past_of, behind_at, field_of, place_of};
 
-// The bytes from `from` up to `to`; none where there is no such part.
+// The bytes from `from` up to `to`; none where there is no such part. Not std's `get(from..to)`: it promises the bytes, but not where they stand.
 #[tactic(auto, unfolding(crate::specs::Fields::part_of, crate::specs::Fields::part_at))]
 pub fn pick_part(s: &[u8], from: usize, to: usize) -> &[u8]
     ensures { (result.now ≡ part_of s.now from to)
@@ -30,8 +30,8 @@ pub fn pass_field(line: &[u8], at: usize, separator: u8) -> usize
     }
 }
 
-// The field that k others stand before; where there is none, nothing, at the line's end. No case has an empty field, so
-// that is bad in every case.
+// The field that k others stand before; where there is none, nothing, at the line's end. An empty field
+// says nothing either. Not std's `split` and `nth`: the promise says at which pointer the field stands, and theirs say no place.
 #[tactic(auto, using(crate::proofs::Walk::field_part, crate::proofs::Walk::field_at))]
 pub fn pick_field(line: &[u8], k: usize) -> &[u8]
     ensures { (result.now ≡ field_of line.now k)
@@ -45,14 +45,14 @@ pub fn pick_field(line: &[u8], k: usize) -> &[u8]
     pick_part(line, at, text::field_end(line, at, b' '))
 }
 
-// Which of the words, parted by spaces, a text is; as many as they are where it is none.
+// Which of the words, parted by spaces, a text is; as many as they are where it is none. No Option: docs/PROMISES.md promises this number.
 #[tactic(auto, using(crate::proofs::Walk::word_here, crate::proofs::Walk::word_not, crate::proofs::Walk::word_found), unfolding(crate::specs::Fields::field_of))]
 pub fn look_up(words: &[u8], s: &[u8]) -> usize
     ensures { result ≡ place_of s.now (cut 0x20 words.now) }
 {
     let n = text::fields(words, b' ');
     for k in 0..n {
-        if octets::same(pick_field(words, k), s) {
+        if pick_field(words, k) == s {
             return k;
         }
     }

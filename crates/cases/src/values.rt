@@ -9,7 +9,8 @@ use crate::split::pick_field;
 // The most room that a call is lent.
 const MOST_ROOM: u32 = 70000;
 
-// Where the bytes of a field stand in a buffer that holds those of several. No slice: it would borrow the buffer that the next field is read into.
+// Where the bytes of a field stand in a buffer that holds those of several. No slice: a part lent out of
+// the buffer would hide from the promise what the buffer holds behind it (docs/DECISIONS.md, P13).
 #[derive(Clone, Copy)]
 pub struct Span {
     pub from: usize,
@@ -21,7 +22,7 @@ pub struct Span {
 fn unhex_text(s: &[u8], out: &mut [u8], at: usize) -> Option<Span>
     ensures { BytesPromise out.old at s.now result out.new }
 {
-    if octets::same(s, b"-") {
+    if s == b"-".as_slice() {
         return Some(Span { from: at, to: at });
     }
     match text::unhex(out, at, s) {
@@ -56,8 +57,8 @@ pub fn read_exact<const N: usize>(line: &[u8], k: usize) -> Option<[u8; N]>
 pub fn read_decimal(line: &[u8], k: usize, most: u32) -> Option<u32>
     ensures { result ≡ number_in 10 most (field_of line.now k) }
 {
-    let v = text::undecimal(pick_field(line, k), most as u64)?;
-    Some(v as u32)
+    let v = text::undecimal(pick_field(line, k), u64::from(most))?;
+    u32::try_from(v).ok()
 }
 
 // A field of eight hex digits.

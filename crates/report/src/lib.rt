@@ -30,7 +30,8 @@ fn make_packet(a: Accepted) -> Packet
     }
 }
 
-// A session with neither algorithm, whose keys nothing looks at.
+// A session with neither algorithm, whose keys nothing looks at. They are made here: `keys` makes keys of a secret alone, and a public maker of
+// zeros there would be one that a session could take by mistake.
 fn make_session() -> SubState
     ensures { Bare result }
 {
@@ -63,6 +64,5 @@ fn read_packet(packet: &[u8]) -> Result<Packet, Refusal>
 pub fn tell(packet: &[u8], out: &mut [u8], c: Cursor) -> Cursor
     ensures { AddPromise out.old c (told packet.now) result out.new }
 {
-    let t = read_packet(packet);
-    text::packet_line(out, c, t)
+    text::packet_line(out, c, read_packet(packet))
 }

@@ -4,5 +4,5 @@ use Rattle.report.proofs.tell.Goals as goal
 
 pub returns : goal.returns
 returns c =
-    let read = c.read_packet-t in
+    let read = c.read_packet in
     tells _ _ _ _ read.result _ read.ensures c.packet_line.ensures

@@ -202,11 +202,11 @@ fn main(rt: HostRuntime) -> io::Result<()> {
         IV,
         &mut out,
     );
-    if let Ok(n) = w {
-        print_message(&rt, b"datagram ", n, &out)?;
-        if n == 64 {
-            read_back(&rt, &mut out)?;
-        }
+    if let Ok(n) = w
+        && let Some(datagram) = out.get_mut(..n)
+    {
+        print_line(&rt, b"datagram ", datagram)?;
+        read_back(&rt, datagram)?;
     }
     read_answer_twice(&rt, Held::new(session))
 }

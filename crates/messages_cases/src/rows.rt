@@ -23,29 +23,47 @@ enum Value {
     Other(usize),
 }
 
-// What is shown of a case's answer: a refusal's number, or 0 for accepted, and the value.
+// What became of a case: a refusal is shown by its number, accepted as 0, and as 999 a length told that is not the number of bytes changed.
+#[derive(Clone, Copy, PartialEq, Eq)]
+pub enum End {
+    Accepted,
+    Refused(u8),
+    WrongLength,
+}
+
+impl End {
+    fn number(self) -> u16 {
+        match self {
+            End::Accepted => 0,
+            End::Refused(number) => u16::from(number),
+            End::WrongLength => 999,
+        }
+    }
+}
+
+// What is shown of a case's answer, and the value.
 #[derive(Clone, Copy, PartialEq, Eq)]
 pub struct Told {
-    number: u16,
+    end: End,
     value: Value,
 }
 
 impl Told {
-    pub fn new(n: u8, number: u16, value: usize) -> Told {
+    pub fn new(n: u8, end: End, value: usize) -> Told {
         let value = match value {
             0 => Value::Zero,
             v if v == usize::from(n) => Value::Case,
             v => Value::Other(v),
         };
-        Told { number, value }
+        Told { end, value }
     }
 
     fn of_reader(n: u8, answer: Result<usize, Refusal>) -> Told {
         match answer {
-            Ok(value) => Told::new(n, 0, value),
+            Ok(value) => Told::new(n, End::Accepted, value),
             Err(r) => Told::new(
                 n,
-                u16::from(r.number()),
+                End::Refused(r.number()),
                 usize::from(r.value().unwrap_or(0)),
             ),
         }
@@ -77,7 +95,7 @@ fn show_group(rt: &impl Print, from: u8, to: u8, told: Told) -> io::Result<()> {
     if from != to {
         print!(rt; "-{to}")?;
     }
-    print!(rt; "={}", told.number)?;
+    print!(rt; "={}", told.end.number())?;
     match told.value {
         Value::Zero => Ok(()),
         Value::Case => print!(rt; "v"),
@@ -108,7 +126,7 @@ pub fn show(rt: &impl Print, rows: &[(&str, Row)]) -> io::Result<()> {
     Ok(())
 }
 
-// Bytes in hex.
+// Bytes in hex. `cipher_vectors` has the same three lines and ends the line: a library for them would be no plainer.
 pub fn show_hex(rt: &impl Print, s: &[u8]) -> io::Result<()> {
     for b in s {
         print!(rt; "{b:02x}")?;

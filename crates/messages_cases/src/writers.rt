@@ -1,5 +1,5 @@
 // Cases for the writers: each writes into the start of 64 bytes AA, of which the first ones are lent.
-use crate::rows::{Told, show_hex};
+use crate::rows::{End, Told, show_hex};
 use messages::auth::{AuthenticationAlgorithm, ConfidentialityAlgorithm, IntegrityAlgorithm};
 use messages::open_session::OpenSessionRequest;
 use messages::rakp_1::{RakpMessage1, Username};
@@ -59,16 +59,16 @@ impl Writer {
         }
     }
 
-    // The answer with room for n bytes: the refusal's number and the bytes changed, or the length told; 999 where that is not the number
-    // of bytes changed.
+    // The answer with room for n bytes: the refusal and how many bytes changed, or the length told.
     pub fn tell(self, n: u8) -> Told {
         let mut out = [0xaau8; 64];
         let room = usize::from(n).min(64);
         let answer = self.write(&mut out[..room]);
         let changed = out.iter().filter(|b| **b != 0xaa).count();
         match answer {
-            Err(r) => Told::new(n, u16::from(r.number()), changed),
-            Ok(len) => Told::new(n, if len == changed { 0 } else { 999 }, len),
+            Err(r) => Told::new(n, End::Refused(r.number()), changed),
+            Ok(len) if len == changed => Told::new(n, End::Accepted, len),
+            Ok(len) => Told::new(n, End::WrongLength, len),
         }
     }
 }

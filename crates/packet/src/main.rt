@@ -1,5 +1,6 @@
 // Tells of one packet: reads it from standard input, as a session with neither algorithm, and writes one line (docs/RULES.md,
-// section 8). The four programs packet, packet_empty, packet_longest and packet_longer have one text: each is run on an input of its own.
+// section 8). The four programs packet, packet_empty, packet_longest and packet_longer have one text: the gate runs a program on one
+// stored input, so each input has a program of its own.
 #![tactic(auto)]
 
 use std::io;

@@ -79,7 +79,11 @@ pub struct SubState {
 // The RMCP header of an IPMI packet.
 pub const OUTER: [u8; 4] = *b"\x06\x00\xff\x07";
 
-// The code's length, the one place that has it. A session without integrity has no code, and the same ceiling.
+// This and the next three are functions and no methods: `frame` hands out `code_len` and `encrypts` as such, and `code_len_only` and the
+// other theorems of no second answer name all four.
+
+// The code's length, the one place that has it. A session without integrity has no code, and the same ceiling. A match, so
+// that the next algorithm, with another length, is refused until it stands here.
 pub fn code_len(i: Integrity) -> usize
     ensures { result ≡ code_length i }
 {
@@ -119,12 +123,14 @@ pub struct Code {
     pub blocks: u32,
 }
 
-// The code of some bytes under the session's integrity key; zeros and no block for more bytes than the hash takes.
+// The code of some bytes under the session's integrity key; zeros and no block for more bytes than the hash takes. `Code` is no `Hashed`
+// behind a Result: `CodePromise`, which the pages name, says what is told past the limit too.
 pub fn make_code(s: SubState, bytes: &[u8]) -> Code
     ensures { CodePromise s bytes.now result }
 {
     match sha1_hmac::hmac(&s.keys.k1, bytes) {
         Ok(h) => {
+            // by a variable: tried as `code: h.digest`, which the check refuses, since it does not follow an array from field to field
             let code = h.digest;
             Code {
                 code,

@@ -17,7 +17,7 @@ use refusal::Refusal;
 use sha1_hmac::{Hashed, Sha1Hmac};
 
 // The role byte and the user's name: the first `len` of sixteen bytes. A length over 16 counts as 16. There is no heap to hold a name of its own
-// length.
+// length. The name is no Username: `messages` stands on no code, this crate on no message, and N (docs/RULES.md, 5.2) is bytes in both.
 #[derive(Clone, Copy)]
 pub struct Named {
     pub role: u8,
@@ -26,11 +26,12 @@ pub struct Named {
 }
 
 // The key that makes the SIK: the Kg if one was lent, else the password. No other place chooses between the two.
+// No Kg is an empty slice and no None: rule table 35 counts 0 bytes as absent (docs/DECISIONS.md, E4), so Some of none would say it a second time.
 pub fn kg<'a>(kg: &'a [u8], password: &'a [u8]) -> &'a [u8]
     ensures { (result.now ≡ key_of kg.now password.now)
         × (result.ref_ptr ≡ cond (absent kg.now) password.entry.ref_ptr kg.entry.ref_ptr) }
 {
-    if kg.len() == 0 { password } else { kg }
+    if kg.is_empty() { password } else { kg }
 }
 
 // HMAC under `key` after the pieces.
@@ -79,9 +80,9 @@ pub fn message_2_code(
 
 // The key from which the session's keys come.
 #[tactic(auto, using(crate::proofs::Texts::room_sik))]
-pub fn sik<'a>(
-    key: &'a [u8],
-    password: &'a [u8],
+pub fn sik(
+    key: &[u8],
+    password: &[u8],
     rm: [u8; 16],
     rc: [u8; 16],
     named: Named,

@@ -1,19 +1,47 @@
 -- One law for a turn of each loop of the block function, and what a running hash asks of SHA-1.
-use Rattle.std.proofs.Common.{◌≡◌, ℕ, suc, ◌+◌, ◌-◌, ◌*◌, ◌<◌, ◌≤◌, List, ◌++◌, length, get_or, take, set, refl, ◌∙◌, add-one, arith, get_or-take, take-suc-set}
+use Rattle.std.proofs.Common.{◌≡◌, ℕ, suc, ◌+◌, ◌-◌, ◌*◌, ◌<◌, ◌≤◌, List, [], ◌++◌, length, get_or, take, drop, set, refl, ap, ◌∙◌, add-one, arith, get_or-take, take-suc-set}
+use lib.Seq.{drop-drop, get_or-drop}
+use Rattle.std.specs.Prelude.{zero, fold}
+use Rattle.std.specs.Simd.{first_chunks}
 use Rattle.octets.specs.Bytes.{Bytes}
 use Rattle.octets.specs.Number.{be}
 use Rattle.octets.proofs.Bytes.{bytes_append}
 use Rattle.octets.proofs.Number.{bytes_be}
-use Rattle.running.specs.Hash.{Sized}
+use Rattle.running.specs.Hash.{Sized, runs}
 use Rattle.sha1_block.specs.Word.{word}
 use Rattle.sha1_block.specs.Block.{words, next, more, schedule, round, rounds, added, compress, bytes_of, sha1_hash}
 use Rattle.sha1_block.specs.Turns.{turns}
 use Rattle.sha1_block.specs.declared.Chain.{Chain}
 
-pub words_more : (w m : List ℕ) (t x : ℕ) → t < length w → take t w ≡ words t m → x ≡ word m (t * 4)
-    → take (t + 1) (set w t x) ≡ words (t + 1) m
+chunk_at : (n k i : ℕ) (m d : List ℕ) → i < k → get_or (first_chunks n k m) i d ≡ take n (drop (i * n) m)
+chunk_at n zero i m d l = absurd (omega arith)
+chunk_at n (suc k) zero m d l = let e : 0 * n ≡ 0 = omega arith in rw e refl
+chunk_at n (suc k) (suc i) m d l =
+    let e : n + i * n ≡ suc i * n = omega arith in
+    chunk_at n k i (drop n m) d (omega arith) ∙ ap (take n) (drop-drop (i * n) n m ∙ ap (λ (j : ℕ). drop j m) e)
+
+-- a word is the four bytes that begin with its first
+word_of : (m : List ℕ) (i : ℕ) → word (take 4 (drop i m)) 0 ≡ word m i
+word_of m i =
+    let e : i + 0 ≡ i = omega arith in
+    rw (
+      get_or-take 4 (drop i m) 0 0 (omega arith),
+      get_or-take 4 (drop i m) 1 0 (omega arith),
+      get_or-take 4 (drop i m) 2 0 (omega arith),
+      get_or-take 4 (drop i m) 3 0 (omega arith),
+      get_or-drop i m 0 0,
+      get_or-drop i m 1 0,
+      get_or-drop i m 2 0,
+      get_or-drop i m 3 0,
+      e,
+    ) refl
+
+pub words_more : (w m : List ℕ) (fours : List (List ℕ)) (t k x : ℕ) → t < length w → take t w ≡ words t m → fours ≡ first_chunks 4 k m → t < k
+    → x ≡ word (get_or fours t []) 0 → take (t + 1) (set w t x) ≡ words (t + 1) m
 unfolding words
-words_more w m t x h e p = rw (add-one, take-suc-set w t x h, e, p)
+words_more w m fours t k x h e b l p =
+    let f : x ≡ word m (t * 4) = p ∙ rw (b, chunk_at 4 k t m [] l) (word_of m (t * 4)) in
+    rw (add-one, take-suc-set w t x h, e, f) refl
 
 -- W_t looks only at words before t
 next_take : (w : List ℕ) (t : ℕ) → 16 ≤ t → next (take t w) t ≡ next w t
@@ -49,6 +77,12 @@ unfolding compress
 whole h v₁ v₂ v₃ v₄ r w m s p₁ p₂ p₃ p₄ e =
     let f : v₄ ≡ rounds 80 w h = p₄ ∙ rw (p₃, p₂, p₁) (four_runs w h) in
     e ∙ rw (f, s)
+
+-- the blocks one after another are a run of them
+pub runs_fold : (k : ℕ) (h : Chain) (m : List ℕ) → fold compress h (first_chunks 64 k m) ≡ runs compress k h m
+unfolding runs
+runs_fold zero h m = refl
+runs_fold (suc k) h m = runs_fold k (compress h (take 64 m)) (drop 64 m)
 
 bytes_twenty : (h : Chain) → Bytes (bytes_of h)
 bytes_twenty h =

@@ -19,14 +19,6 @@ pub struct Chain {
     e: u32,
 }
 
-// The word that begins at byte i.
-fn load_word(m: &[u8], i: usize) -> u32
-    requires { i + 4 ≤ length m.now }
-    ensures { result ≡ word m.now i }
-{
-    u32::from_be_bytes([m[i], m[i + 1], m[i + 2], m[i + 3]])
-}
-
 // The function f_t.
 #[tactic(auto, unfolding(crate::specs::Block::f_t))]
 fn f(t: usize, x: u32, y: u32, z: u32) -> u32
@@ -87,15 +79,15 @@ fn do_twenty_rounds(h: Chain, w: &[u32; 80], s: usize) -> Chain
     v
 }
 
-// The sixteen words of the block m. A block is a slice of 64 and no array: it is read where it lies, as `chunks_exact` lends it, in these three.
-#[tactic(auto, using(crate::proofs::Laws::words_more), unfolding(crate::specs::Block::words))]
-fn load_block(m: &[u8]) -> [u32; 80]
-    requires { length m.now ≡ 64 }
+// The sixteen words of the block m.
+#[tactic(auto, unfolding(crate::specs::Block::words))]
+fn load_block(m: &[u8; 64]) -> [u32; 80]
     ensures { take 16 result ≡ words 16 m.now }
 {
     let mut w = [0u32; 80];
+    let fours = m.as_chunks::<4>().0;
     for t in 0..16 {
-        w[t] = load_word(m, t * 4);
+        w[t] = u32::from_be_bytes(fours[t]);
     }
     w
 }
@@ -110,8 +102,7 @@ fn mix_word(w: &[u32; 80], t: usize) -> u32
 
 // The eighty words of the block m.
 #[tactic(auto, unfolding(crate::specs::Block::more))]
-fn make_schedule(m: &[u8]) -> [u32; 80]
-    requires { length m.now ≡ 64 }
+fn make_schedule(m: &[u8; 64]) -> [u32; 80]
     ensures { result ≡ schedule m.now }
 {
     let mut w = load_block(m);
@@ -137,8 +128,7 @@ fn add_chains(h: Chain, v: Chain) -> Chain
 
 // One block.
 #[tactic(auto, using(crate::proofs::Laws::whole))]
-fn compress_block(h: Chain, m: &[u8]) -> Chain
-    requires { length m.now ≡ 64 }
+fn compress_block(h: Chain, m: &[u8; 64]) -> Chain
     ensures { result ≡ compress h m.now }
 {
     let w = make_schedule(m);
@@ -167,11 +157,7 @@ pub fn start() -> Chain
 pub fn blocks(h: Chain, s: &[u8]) -> Chain
     ensures { result ≡ runs sha1_hash.compress (length s.now / 64) h s.now }
 {
-    let mut v = h;
-    for block in s.chunks_exact(64) {
-        v = compress_block(v, block);
-    }
-    v
+    s.as_chunks::<64>().0.iter().fold(h, compress_block)
 }
 
 // The twenty bytes of a chaining value.

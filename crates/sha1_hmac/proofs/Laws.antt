@@ -1,10 +1,13 @@
 -- What is SHA-1's own: the outer hash's last block, and sizes.
-use Rattle.std.proofs.Common.{◌≡◌, ℕ, ◌+◌, ◌≤◌, Bool, List, ◌++◌, length, drop, set, replicate, ap, ◌∙◌, arith}
+use Rattle.std.proofs.Common.{◌≡◌, ℕ, ◌+◌, ◌≤◌, Bool, List, [], ◌∷◌, ◌++◌, length, drop, get_or, set, refl, replicate, ap, ◌∙◌, arith}
+use Rattle.std.specs.Int.Bits.{bit_xor}
 use Rattle.octets.specs.Bytes.{Bytes}
+use Rattle.octets.specs.Tab.{tab}
 use Rattle.octets.specs.Place.{begun}
 use Rattle.octets.specs.Promise.{PutPromise}
 use Rattle.octets.proofs.Place.{put_done, begun_first}
 use Rattle.hmac.specs.Count.{ceiling}
+use Rattle.hmac.specs.Hmac.{xored}
 use Rattle.running.specs.Hash.{pad}
 use Rattle.running.proofs.Sizes as sizes
 use Rattle.sha1_block.specs.Block.{sha1_hash}
@@ -18,6 +21,12 @@ tail = set (set (set (replicate 64 0) 20 0x80) 62 2) 63 160
 pub last_law : (d x : List ℕ) (r : Bool) → length d ≡ 20 → PutPromise tail 0 d r x → x ≡ d ++ pad 84
 unfolding pad begun
 last_law d x r n p = put_done tail 0 d r x p (omega arith) ∙ begun_first d tail ∙ ap (λ (i : ℕ). d ++ drop i tail) n
+
+-- a list xored is the tab of its bytes xored
+pub xored_tab : (x : ℕ) (d : List ℕ) → tab (length d) (λ i. bit_xor (get_or d i 0) x) ≡ xored x d
+unfolding xored
+xored_tab x [] = refl
+xored_tab x (b ∷ d) = ap (λ (t : List ℕ). bit_xor b x ∷ t) (xored_tab x d)
 
 pub sha1-length : (m : List ℕ) → length (sha1 m) ≡ 20
 unfolding sha1_hash

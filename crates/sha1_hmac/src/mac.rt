@@ -50,13 +50,10 @@ fn make_key_block(key: &[u8]) -> KeyBlock
 }
 
 // Each byte of a block xored with x.
-fn mask_block(mut block: [u8; 64], x: u8) -> [u8; 64]
+fn mask_block(block: [u8; 64], x: u8) -> [u8; 64]
     ensures { result ≡ xored x block }
 {
-    for b in &mut block {
-        *b ^= x;
-    }
-    block
+    std::array::from_fn(|i| block[i] ^ x)
 }
 
 // The state that a key leaves.

@@ -1,14 +1,13 @@
-use Rattle.std.proofs.Common.{◌≡◌, refl, arith, rules}
-use Rattle.hmac.specs.Hmac.{xored}
-use Rattle.hmac.proofs.Masked.{mask_turn, mask_end}
+-- `mask_block` keeps its promise: each byte is the sum named.
+use Rattle.std.proofs.Common.{◌≡◌, ◌∙◌, length, get_or, rules}
+use Rattle.std.specs.Int.Bits.{bit_xor}
+use Rattle.octets.proofs.Tab.{tab_made}
+use Rattle.sha1_hmac.proofs.Laws.{xored_tab}
 use Rattle.sha1_hmac.proofs.mac.mask_block.Goals as goal
 
-pub loop-b-init : goal.loop-b-init
-unfolding xored
-loop-b-init c = (search rules, refl)
-
-pub loop-b-preserved : goal.loop-b-preserved
-loop-b-preserved c = let l = c.loop-b in (l.invariant.0, mask_turn l.b-items _ _ l.b-index (omega arith) l.invariant.1)
-
 pub returns : goal.returns
-returns c = let l = c.loop-b in let e : l.b-index ≡ 64 = omega arith in mask_end l.b-items _ _ l.invariant.0 (rw e at l.invariant.1)
+returns c =
+    let a = c.args in
+    let n : length a.block ≡ 64 = search rules in
+    tab_made _ _ (λ i. bit_xor (get_or a.block i 0) a.x) (λ i y q h. search rules) _ 64 c.from_fn.ensures.items
+    ∙ (rw n at (xored_tab a.x a.block))

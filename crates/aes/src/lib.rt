@@ -12,46 +12,25 @@ ghost use Rattle.aes.specs.Turn.{next_key};
 use sbox::{inv_sub_bytes, sub_bytes, xtime};
 use std::array;
 
-// The eleven round keys, one after the other.
+// The eleven round keys, one after the other: 176 bytes in a row, as the definitions of specs/ have them, where byte i of round key n is byte
+// 16 n + i. Eleven arrays would spare the code its sums of indexes, and want laws of joined rows in the proofs.
 #[derive(Clone, Copy)]
 pub struct Aes128 {
     pub keys: [u8; 176],
 }
 
-// A byte of a mixed column: {02} a + {03} b + c + d.
-fn mix_byte(a: u8, b: u8, c: u8, d: u8) -> u8
-    ensures { result ≡ mix_row a b c d }
-{
-    xtime(a ^ b) ^ b ^ (c ^ d)
-}
-
-// A byte of an unmixed column: {0e} a + {0b} b + {0d} c + {09} d, by three doublings.
-fn unmix_byte(a: u8, b: u8, c: u8, d: u8) -> u8
-    ensures { result ≡ unmix_row a b c d }
-{
-    let e = xtime(a ^ b ^ (c ^ d));
-    let f = xtime(e ^ (a ^ c));
-    xtime(f ^ (a ^ b)) ^ (b ^ (c ^ d))
-}
-
-// Row r is turned left by r places; a block has its bytes column by column.
+// Row r is turned left by r places. A block has its bytes column by column: byte i = 4 c + r comes from 4 (c + r) + r, which is 5 i modulo 16.
 fn shift_rows(s: [u8; 16]) -> [u8; 16]
     ensures { result ≡ shift_rows s }
 {
-    [
-        s[0], s[5], s[10], s[15], s[4], s[9], s[14], s[3], s[8], s[13], s[2], s[7], s[12], s[1],
-        s[6], s[11],
-    ]
+    array::from_fn(|i| s[5 * i % 16])
 }
 
-// Row r is turned right by r places. Two lists of sixteen places, this and the one before: one function given the places would read them by a table.
+// Row r is turned right by r places: 13 is the inverse of 5 modulo 16. The two stay two, a line each: each has a definition of its own to keep.
 fn inv_shift_rows(t: [u8; 16]) -> [u8; 16]
     ensures { result ≡ unshift_rows t }
 {
-    [
-        t[0], t[13], t[10], t[7], t[4], t[1], t[14], t[11], t[8], t[5], t[2], t[15], t[12], t[9],
-        t[6], t[3],
-    ]
+    array::from_fn(|i| t[13 * i % 16])
 }
 
 // The first row of a matrix by which a column is multiplied; its other rows are turns of it.
@@ -62,23 +41,27 @@ trait Row {
         ensures { result ≡ product a b c d };
 }
 
+// {02} a + {03} b + c + d.
 struct MixRow;
 
 impl Row for MixRow {
     ghost product = { mix_row };
 
     fn times(a: u8, b: u8, c: u8, d: u8) -> u8 {
-        mix_byte(a, b, c, d)
+        xtime(a ^ b) ^ b ^ (c ^ d)
     }
 }
 
+// {0e} a + {0b} b + {0d} c + {09} d, by three doublings.
 struct UnmixRow;
 
 impl Row for UnmixRow {
     ghost product = { unmix_row };
 
     fn times(a: u8, b: u8, c: u8, d: u8) -> u8 {
-        unmix_byte(a, b, c, d)
+        let e = xtime(a ^ b ^ (c ^ d));
+        let f = xtime(e ^ (a ^ c));
+        xtime(f ^ (a ^ b)) ^ (b ^ (c ^ d))
     }
 }
 
@@ -149,7 +132,8 @@ fn add_round_key(w: &[u8; 176], n: usize, s: [u8; 16]) -> [u8; 16]
     array::from_fn(|i| s[i] ^ w[16 * n + i])
 }
 
-// The round key after k, by the round's constant.
+// The round key after k, by the round's constant. Written out: as a loop, `n[i] ^= n[i - 4]` over a copy of k, it is shorter, but wants an invariant
+// that says which bytes are new.
 fn make_next_key(k: [u8; 16], rc: u8) -> [u8; 16]
     ensures { result ≡ next_key k rc }
 {
@@ -192,7 +176,7 @@ impl Aes128 {
         Aes128 { keys }
     }
 
-    // The cipher of one block.
+    // The cipher of one block. It takes the key by value: `&self` would be another public signature, and each promise above would speak of what is lent.
     pub fn encrypt_block(self, block: [u8; 16]) -> [u8; 16]
         ensures { result ≡ cipher (keys_of self) block }
     {

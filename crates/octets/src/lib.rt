@@ -8,6 +8,7 @@ ghost use Rattle.octets.specs.Equal.{same};
 ghost use Rattle.octets.specs.Promise.{PutPromise};
 
 // A number as N bytes, the low byte first; of a number that needs more, the low N bytes.
+// The loop stays: `to_le_bytes` gives eight bytes, not N, and a law would have to say that eight cut short, or with zeros behind them, are N.
 pub fn le<const N: usize>(n: u64) -> [u8; N]
     ensures { result ≡ le N n }
 {
@@ -56,6 +57,7 @@ pub fn load_le4(s: &[u8], at: usize) -> u32
 }
 
 // Puts `src` into `dst` at `at` where all of it fits; else nothing changes and the answer is false.
+// Callers that know that it fits let the answer go; it stays, since `PutPromise` of specs/ tells it.
 pub fn put(dst: &mut [u8], at: usize, src: &[u8]) -> bool
     ensures { PutPromise dst.old at src.now result dst.new }
 {

@@ -1,11 +1,11 @@
--- `unmix_byte` keeps its promise: three doublings make the inverse matrix's row.
+-- `UnmixRow::times` keeps its promise: three doublings make the inverse matrix's row.
 use Prim.Native.Nat.{ℕ}
 use mathlib.Core.Path.{◌∙◌, ap}
 use lib.Bits.{bit_xor}
 use Rattle.sbox.specs.Field.{xtime}
 use Rattle.aes.proofs.Quad.{quad}
 use Rattle.aes.proofs.Mix.{unmix_one}
-use Rattle.aes.proofs.unmix_byte.Goals as goal
+use Rattle.aes.proofs.UnmixRowRow.times.Goals as goal
 
 pub returns : goal.returns
 unfolding quad

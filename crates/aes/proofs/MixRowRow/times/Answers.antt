@@ -1,9 +1,9 @@
--- `mix_byte` keeps its promise: one doubling makes the matrix's row.
+-- `MixRow::times` keeps its promise: one doubling makes the matrix's row.
 use Prim.Native.Nat.{ℕ}
 use mathlib.Core.Path.{◌∙◌, ap}
 use lib.Bits.{bit_xor}
 use Rattle.aes.proofs.Mix.{mix_one}
-use Rattle.aes.proofs.mix_byte.Goals as goal
+use Rattle.aes.proofs.MixRowRow.times.Goals as goal
 
 pub returns : goal.returns
 returns c =

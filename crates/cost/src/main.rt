@@ -54,7 +54,8 @@ fn fill(s: &mut [u8]) {
     }
 }
 
-// Writes the packet and answers its length, 0 where it was refused.
+// Writes the packet and answers its length, 0 where it was refused. No Option: `add_made` passes over what has no bytes, so each caller would only
+// make a 0 of None again.
 fn write_packet(s: SubState, payload: &[u8], out: &mut [u8]) -> usize {
     let iv = [7; 16];
     let written = frame::write_payload(
@@ -69,7 +70,7 @@ fn write_packet(s: SubState, payload: &[u8], out: &mut [u8]) -> usize {
     written.unwrap_or(0)
 }
 
-// The payload's length, 0 where the packet was refused.
+// The payload's length, 0 where the packet was refused, as in `write_packet`.
 fn find_length(r: Read) -> usize {
     r.answer.map_or(0, |a| a.len)
 }
@@ -137,7 +138,8 @@ fn run_write(payload: &[u8], turns: usize) -> Found {
     repeat_write(make_session(), payload, &mut [0; ROOM], turns)
 }
 
-// The packet is what was written of `out`, and its copy has as many bytes.
+// The packet is what was written of `out`, and its copy has as many bytes. Which turns are run is a flag: a function passed in would need a
+// `requires` that it may be called, and only `Verb::run` calls this.
 fn run_read(payload: &[u8], turns: usize, once: bool) -> Found {
     let s = make_session();
     let mut out = [0; ROOM];
@@ -249,7 +251,8 @@ fn run(rt: &impl Print, given: &[u8], bytes: &[u8]) -> io::Result<bool> {
 }
 
 // Goes on after a short read, until the input ends or there is no more room, and answers how many bytes were read: they stand at the
-// room's start. The loop stays: a read says how far it came, and std's whole reads say too little of the room after an error.
+// room's start. The loop stays: a read says how far it came, and std's whole reads say too little of the room after an error. `report` has a copy,
+// and no library has it: a public call must promise every byte that it is lent, and what a reader leaves behind its bytes is its own.
 fn read_full<R: io::Read>(input: &mut R, room: &mut [u8]) -> io::Result<usize>
     ensures bound { IfOk result (λ n. n ≤ length room.new) }
     ensures bytes { IfOk result (λ n.

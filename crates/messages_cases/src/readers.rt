@@ -121,7 +121,7 @@ const RUST_2: [u8; 60] =
     \xac\x04\x00\x00\x00\x00\x00\x00\x00\x00\x00\x00\x00\x00\x00\x00\x00\x00\x00\x00\
     \x6b\x61\xba\x25\xc8\x22\x4e\x32\x78\x63\x62\x6b\x30\x7c\x8d\xc8\x15\x22\x90\x91";
 
-// What is shown of a message 2 that is refused: zeros.
+// What is shown of a message 2 that is refused: zeros, since the stored output has them, and no number as for the other messages.
 const NOTHING_2: RakpMessage2 = RakpMessage2 {
     tag: 0,
     console: 0,

@@ -3,8 +3,15 @@ use Rattle.std.specs.Prelude.{Result, ℕ, List, ◌≡◌}
 use Rattle.refusal.specs.Order.{Res}
 use Rattle.refusal.specs.Answer.{told_as}
 use Rattle.refusal.specs.declared.Refusal.{Refusal}
+use Rattle.framing.specs.Packet.{Message}
 use Rattle.framing.specs.Told.{counted}
 use Rattle.framing.specs.Write.{wrote_by}
+use Rattle.suite.specs.Types.{type_number}
+use Rattle.writer.specs.declared.Message as M
+
+-- what a packet says, by its numbers and bytes
+abbrev pub message_of : M.Message → Message
+message_of m = record { ty = type_number m.ty; id = m.id; seq = m.seq; payload = m.payload.now }
 
 -- the writer's answer: the length of what was written, or a refusal
 abbrev pub written_told : Result ℕ Refusal → Res ℕ

@@ -10,19 +10,20 @@ ghost use Rattle.framing.specs.Packet.{header_of, counting, plain_of};
 ghost use Rattle.framing.specs.Write.{least_p, least_q, body_size, packet_size, room_of, write_after, longest_payload, our_body, our_pads, ours};
 ghost use Rattle.suite.specs.Session.{suite_of};
 ghost use Rattle.suite.specs.Told.{stage_told};
-ghost use Rattle.writer.specs.Answers.{WritePromise};
+ghost use Rattle.writer.specs.Answers.{message_of, WritePromise};
 ghost use Rattle.framing.specs.Outer.{write_of, write_datagram_of};
 
 use refusal::Refusal;
 use suite::{Confidentiality, PayloadType, SubState};
 
-// What a packet says.
+// What a packet says, and the IV of its body where that is encrypted.
 #[derive(Clone, Copy)]
 struct Message<'a> {
     ty: PayloadType,
     id: u32,
     seq: u32,
     payload: &'a [u8],
+    iv: [u8; 16],
 }
 
 // The least count of pad bytes for whole blocks. This and the next stay two: one for any block would be told the bytes that follow the
@@ -92,7 +93,7 @@ fn check_room(s: SubState, n: usize, before: usize, room: usize) -> Result<usize
 // The twelve bytes before a body of n bytes.
 #[tactic(auto, unfolding(framing::specs::Packet::header_of))]
 fn make_header(s: SubState, m: Message, n: usize) -> [u8; 12]
-    ensures { result ≡ header_of (suite_of s) (record { ty = type_number m.entry.ty; id = m.entry.id; seq = m.entry.seq; payload = m.entry.payload.now }) n }
+    ensures { result ≡ header_of (suite_of s) (message_of m.entry) n }
 {
     let flags = 128 * u8::from(suite::encrypts(s.confidentiality))
         + 64 * u8::from(suite::carries_code(s.integrity))
@@ -128,7 +129,8 @@ fn put_trailer(out: &mut [u8], at: usize, q: usize)
     octets::put(out, at, &next[..n]);
 }
 
-// Whole blocks are never refused.
+// Whole blocks are never refused. A function of its own, as frame's `decrypt` is: its caller is told one equation, where cbc's promise is
+// a choice by the length.
 #[tactic(auto, unfolding(cbc::specs::Promise::whole, refusal::specs::Order::need))]
 fn encrypt(key: [u8; 16], iv: [u8; 16], s: &mut [u8])
     requires { length s.old % 16 ≡ 0 }
@@ -137,32 +139,31 @@ fn encrypt(key: [u8; 16], iv: [u8; 16], s: &mut [u8])
     cbc::cbc_encrypt(key, iv, s).unwrap();
 }
 
-// An encrypted body at its place: the IV, then payload, pad and count, encrypted where they stand. Payload, IV and output stay three arguments:
-// of a struct behind a reference only one field is lent at a time.
-fn write_encrypted(s: SubState, payload: &[u8], iv: [u8; 16], out: &mut [u8])
-    requires { (length payload.now ≤ 65535) × (12 + body_size true (length payload.now) ≤ length out.old) }
+// An encrypted body at its place: the IV, then payload, pad and count, encrypted where they stand.
+fn write_encrypted(s: SubState, m: Message, out: &mut [u8])
+    requires { 12 + body_size true (length m.payload.now) ≤ length out.old }
     ensures { out.new ≡ pasted out.old 12
-        (iv ++ (suite_of s).enc iv (plain_of payload.now (least_p (length payload.now)))) }
+        (m.entry.iv ++ (suite_of s).enc m.entry.iv (plain_of m.entry.payload.now (least_p (length m.entry.payload.now)))) }
 {
-    let n = payload.len();
+    let n = m.payload.len();
     let p = choose_p(n);
-    octets::put(out, 12, &iv);
-    octets::put(out, 28, payload);
+    octets::put(out, 12, &m.iv);
+    octets::put(out, 28, m.payload);
     put_pad(out, 28 + n, p);
     let end = 28 + n + p + 1;
-    encrypt(s.keys.aes_key(), iv, &mut out[28..end]);
+    encrypt(s.keys.aes_key(), m.iv, &mut out[28..end]);
 }
 
 // The body at its place.
 #[tactic(auto, unfolding(framing::specs::Write::our_body))]
-fn write_body(s: SubState, payload: &[u8], iv: [u8; 16], out: &mut [u8])
-    requires { (length payload.now ≤ 65535) × (12 + body_size (suite_of s).aes (length payload.now) ≤ length out.old) }
-    ensures { out.new ≡ pasted out.old 12 (our_body (suite_of s) payload.now iv) }
+fn write_body(s: SubState, m: Message, out: &mut [u8])
+    requires { 12 + body_size (suite_of s).aes (length m.payload.now) ≤ length out.old }
+    ensures { out.new ≡ pasted out.old 12 (our_body (suite_of s) m.entry.payload.now m.entry.iv) }
 {
     if suite::encrypts(s.confidentiality) {
-        write_encrypted(s, payload, iv, out);
+        write_encrypted(s, m, out);
     } else {
-        octets::put(out, 12, payload);
+        octets::put(out, 12, m.payload);
     }
 }
 
@@ -182,37 +183,29 @@ fn write_code(s: SubState, k: usize, out: &mut [u8])
 }
 
 // A packet at the start of an output with room for it.
-fn write_packet(s: SubState, m: Message, iv: [u8; 16], out: &mut [u8])
+fn write_packet(s: SubState, m: Message, out: &mut [u8])
     requires { (length m.payload.now ≤ longest_payload (suite_of s).aes) × (packet_size (suite_of s) (length m.payload.now) ≤ length out.old) }
-    ensures { out.new ≡ begun (ours (suite_of s) (record { ty = type_number m.entry.ty; id = m.entry.id; seq = m.entry.seq; payload = m.entry.payload.now }) iv)
-        out.old }
+    ensures { out.new ≡ begun (ours (suite_of s) (message_of m.entry) m.entry.iv) out.old }
 {
     // at most 65,503 with AES, else 65,535: the room was tested for it
     let n = measure_body(s.confidentiality, m.payload.len() as u16);
     let h = make_header(s, m, n);
     octets::put(out, 0, &h);
-    write_body(s, m.payload, iv, out);
+    write_body(s, m, out);
     if suite::carries_code(s.integrity) {
         write_code(s, 12 + n, out);
     }
 }
 
 // Writes a packet behind up to four other bytes: what is answered is the length of all.
-fn write_behind(
-    before: &[u8],
-    s: SubState,
-    m: Message,
-    iv: [u8; 16],
-    out: &mut [u8],
-) -> Result<usize, Refusal>
+fn write_behind(before: &[u8], s: SubState, m: Message, out: &mut [u8]) -> Result<usize, Refusal>
     requires { length before.now ≤ 4 }
-    ensures { WritePromise (write_after before.now (suite_of s) (record { ty = type_number m.entry.ty; id = m.entry.id; seq = m.entry.seq; payload = m.entry.payload.now }) iv
-        (length out.old)) out.old result out.new }
+    ensures { WritePromise (write_after before.now (suite_of s) (message_of m.entry) m.entry.iv (length out.old)) out.old result out.new }
 {
     let at = before.len();
     let n = check_room(s, m.payload.len(), at, out.len())?;
     octets::put(out, 0, before);
-    write_packet(s, m, iv, &mut out[at..]);
+    write_packet(s, m, &mut out[at..]);
     Ok(n)
 }
 
@@ -237,8 +230,9 @@ pub fn write_payload(
         id,
         seq,
         payload,
+        iv,
     };
-    write_behind(&[], s, m, iv, out)
+    write_behind(&[], s, m, out)
 }
 
 // Writes a datagram: the four outer bytes, then a packet.
@@ -261,6 +255,7 @@ pub fn write_datagram(
         id,
         seq,
         payload,
+        iv,
     };
-    write_behind(&suite::OUTER, s, m, iv, out)
+    write_behind(&suite::OUTER, s, m, out)
 }

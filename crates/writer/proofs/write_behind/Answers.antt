@@ -62,10 +62,10 @@ returns-in_err-n c =
 pub returns : goal.returns
 returns c =
     let a = c.args in
-    let iv_size : length a.iv ≡ 16 = search rules in
+    let iv_size : length a.m.iv ≡ 16 = search rules in
     let e = room_inv (suite_of a.s) (length a.before.now) (length a.m.payload.now) (length a.out.now) _
     (sym c.check_room.ensures ∙ ap stage_told c.in_ok-n.was) in
     writes _ _ _ _
-    (write_yes (suite_of a.s) _ a.iv a.before.now _ _ c.check_room.ensures (suite_lengths a.s) iv_size _ _
+    (write_yes (suite_of a.s) _ a.m.iv a.before.now _ _ c.check_room.ensures (suite_lengths a.s) iv_size _ _
     (ap stage_told c.in_ok-n.was)
     (written_behind a.before.now a.out.now _ _ _ _ (omega (arith, e.1)) c.put.ensures c.write_packet.ensures))

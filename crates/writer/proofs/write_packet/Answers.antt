@@ -4,28 +4,17 @@ use native.Mathlib.Omega.{arith}
 use mathlib.Core.Path.{◌≡◌, sym, ◌∙◌, subst}
 use lib.ListN.{length}
 use Rattle.framing.specs.Write.{least_q, packet_size}
-use Rattle.framing.proofs.Writes.{longest_small, body_fits, packet_body, packet_code, packet_bare, packet_auth}
+use Rattle.framing.proofs.Writes.{body_fits, packet_body, packet_code, packet_bare, packet_auth}
 use Rattle.suite.specs.Types.{encrypts}
 use Rattle.suite.specs.Session.{suite_of}
 use Rattle.suite.proofs.Suites.{suite_lengths}
 use borrow.Author.Rules.{rules}
 use Rattle.writer.proofs.write_packet.Goals as goal
 
-pub measure_body-n-requires : goal.measure_body-n-requires
-measure_body-n-requires c = omega (arith, c.requires.0, longest_small (encrypts c.args.s.confidentiality))
-
-pub make_header-h-requires : goal.make_header-h-requires
-make_header-h-requires c =
-    let a = c.args in
-    omega (arith, c.measure_body-n.ensures, body_fits (encrypts a.s.confidentiality) (length a.m.payload.now) c.requires.0)
-
 pub write_body-requires : goal.write_body-requires
 write_body-requires c =
     let a = c.args in
-    let n = length a.m.payload.now in (
-      omega (arith, c.requires.0, longest_small (encrypts a.s.confidentiality)),
-      omega (arith, c.requires.1, packet_body (suite_of a.s) n, c.put.auto.dst),
-    )
+    omega (arith, c.requires.1, packet_body (suite_of a.s) (length a.m.payload.now), c.put.auto.dst)
 
 pub write_code-requires : goal.write_code-requires
 write_code-requires c =
@@ -44,9 +33,9 @@ write_code-requires c =
 pub returns-then-carries_code : goal.returns-then-carries_code
 returns-then-carries_code c =
     let a = c.args in
-    let iv_size : length a.iv ≡ 16 = search rules in
+    let iv_size : length a.m.iv ≡ 16 = search rules in
     let S = suite_of a.s in
-    packet_auth S (suite_lengths a.s) _ a.iv iv_size a.out.now _ _ _ _ _ c.measure_body-n.ensures
+    packet_auth S (suite_lengths a.s) _ a.m.iv iv_size a.out.now _ _ _ _ _ c.measure_body-n.ensures
     c.make_header-h.ensures c.put.ensures
     (omega (arith, c.requires.1, packet_body S (length a.m.payload.now))) c.write_body.ensures _
     (sym c.carries_code.ensures ∙ c.if-carries_code.true) c.write_code.ensures
@@ -54,9 +43,9 @@ returns-then-carries_code c =
 pub returns-else-carries_code : goal.returns-else-carries_code
 returns-else-carries_code c =
     let a = c.args in
-    let iv_size : length a.iv ≡ 16 = search rules in
+    let iv_size : length a.m.iv ≡ 16 = search rules in
     let S = suite_of a.s in
-    packet_bare S (suite_lengths a.s) _ a.iv iv_size a.out.now _ _ _ _ _ c.measure_body-n.ensures
+    packet_bare S (suite_lengths a.s) _ a.m.iv iv_size a.out.now _ _ _ _ _ c.measure_body-n.ensures
     c.make_header-h.ensures c.put.ensures
     (omega (arith, c.requires.1, packet_body S (length a.m.payload.now))) c.write_body.ensures
     (sym c.carries_code.ensures ∙ c.if-carries_code.false)

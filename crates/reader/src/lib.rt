@@ -38,7 +38,7 @@ pub struct Read {
 // Session and packet stay two arguments: a stage hands the session on beside a shorter packet, so one value for both would be
 // built anew at every stage.
 
-// Whether the flags of a packet say that it ends with a code. The bit above needs no such function: the check finds that proof alone.
+// Whether the flags of a packet say that it ends with a code. Of the bit 0x80 the check finds the proof alone.
 fn has_code_bit(flags: u8) -> bool
     ensures { bit result ≡ flags / 64 % 2 }
 {

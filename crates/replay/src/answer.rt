@@ -5,8 +5,8 @@ use refusal::Refusal;
 use std::io;
 use text::Cursor;
 
-// The output that waits, and where its next byte goes. The buffers for a line's bytes and for a room stay parameters beside it: of a struct
-// behind a reference only one field is lent at a time.
+// The output that waits, and where its next byte goes. The buffers for a line's bytes and for a room stay parameters beside it: most functions take
+// one or two of the three, and of a struct of all three would see more than they use.
 #[derive(Drop)]
 pub struct Answer<'a> {
     pub out: &'a mut [u8],

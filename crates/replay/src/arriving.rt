@@ -1,7 +1,6 @@
 // The cases of packets that are taken once, by the record of their numbers.
 use crate::answer::Answer;
 use crate::frames::{put_twice, read_session, tell_packet};
-use crate::lent::lend_part;
 use arrivals::Arrivals;
 use cases::read_id;
 use frame::SubState;
@@ -74,9 +73,9 @@ pub fn tell_once<F: Fn(SubState, Arrivals, &mut [u8]) -> ReadOnce>(
 {
     let s = read_session(line)?;
     let record = read_record(line, 4, 5)?;
-    let twice = put_twice(line, 6, buf)?;
-    let r = read(s, record, lend_part(buf, twice.len));
-    tell_packet(s, start, twice, r.read, buf, a);
+    let (packet, kept) = put_twice(line, 6, buf)?;
+    let r = read(s, record, packet);
+    tell_packet(s, start, r.read, kept, packet, a);
     say_record(a, r.arrivals);
     Some(())
 }

@@ -1,21 +1,21 @@
 // The cases of packets and datagrams.
 use crate::answer::Answer;
-use crate::lent::{lend_part, pick_span};
-use crate::numbers::read_byte;
-use cases::{pick_part, read_bytes, read_decimal, read_exact, read_id};
+use crate::lent::pick_span;
+use crate::numbers::{read_byte, read_flag};
+use cases::{pick_part, read_bytes, read_exact, read_id};
 use frame::{Accepted, Confidentiality, Integrity, PayloadType, Read, SubState};
 use keys::Keys;
 use refusal::Refusal;
 
 // CONF, INTEG and SIK, the first three fields.
 pub fn read_session(line: &[u8]) -> Option<SubState> {
-    let confidentiality = match read_decimal(line, 1, 1)? {
-        0 => Confidentiality::None,
-        _ => Confidentiality::AesCbc128,
+    let confidentiality = match read_flag(line, 1)? {
+        false => Confidentiality::None,
+        true => Confidentiality::AesCbc128,
     };
-    let integrity = match read_decimal(line, 2, 1)? {
-        0 => Integrity::None,
-        _ => Integrity::HmacSha1_96,
+    let integrity = match read_flag(line, 2)? {
+        false => Integrity::None,
+        true => Integrity::HmacSha1_96,
     };
     let sik = read_exact::<20>(line, 3)?;
     Some(SubState {
@@ -25,22 +25,13 @@ pub fn read_session(line: &[u8]) -> Option<SubState> {
     })
 }
 
-// A packet that stands in the buffer twice, so that what a call changed shows: the one lent ends at `len`, the other at `end`. No
-// slices: the first is lent to be changed while the second is kept.
-#[derive(Clone, Copy)]
-pub struct Twice {
-    pub len: usize,
-    end: usize,
-}
-
-// Puts the packet that the field k says into the buffer twice.
-pub fn put_twice(line: &[u8], k: usize, buf: &mut [u8]) -> Option<Twice> {
+// Puts the packet that the field k says into the buffer twice, so that what a call changed shows: the first is lent to be changed while the
+// second is kept.
+pub fn put_twice<'a>(line: &[u8], k: usize, buf: &'a mut [u8]) -> Option<(&'a mut [u8], &'a [u8])> {
     let once = read_bytes(line, k, buf, 0)?;
-    let again = read_bytes(line, k, buf, once.to)?;
-    Some(Twice {
-        len: once.to,
-        end: again.to,
-    })
+    read_bytes(line, k, buf, once.to)?;
+    let (packet, rest) = buf.split_at_mut_checked(once.to)?;
+    Some((packet, pick_part(rest, 0, once.to)))
 }
 
 // `ok type T id I seq S payload HEX`.
@@ -60,17 +51,15 @@ fn say_buffer(a: &mut Answer, lent: &[u8], left: &[u8]) {
     }
 }
 
-// What is told of a packet that was read out of the buffer, where it began at `start`.
+// What is told of a packet that was lent to a call and left by it, where it began at `start`.
 pub fn tell_packet(
     s: SubState,
     start: usize,
-    twice: Twice,
     read: Read,
-    buf: &[u8],
+    lent: &[u8],
+    left: &[u8],
     a: &mut Answer,
 ) {
-    let left = pick_part(buf, 0, twice.len);
-    let lent = pick_part(buf, twice.len, twice.end);
     match read.answer {
         Ok(p) => {
             let packet = pick_part(left, start, left.len());
@@ -98,9 +87,9 @@ pub fn tell_read<F: Fn(SubState, &mut [u8]) -> Read>(
     requires { F.IsAlwaysCallable read }
 {
     let s = read_session(line)?;
-    let twice = put_twice(line, 4, buf)?;
-    let r = read(s, lend_part(buf, twice.len));
-    tell_packet(s, start, twice, r, buf, a);
+    let (packet, kept) = put_twice(line, 4, buf)?;
+    let r = read(s, packet);
+    tell_packet(s, start, r, kept, packet, a);
     Some(())
 }
 

@@ -1,11 +1,10 @@
 // The cases of the hash and of the code.
-ghost use Rattle.std.specs.Prelude.{◌<◌, IfSome};
-
 use crate::answer::Answer;
 use crate::lent::pick_span;
 use cases::{pick_part, read_bytes};
 use refusal::Refusal;
 use sha1_hmac::{Hashed, Sha1, Sha1Hmac};
+use std::num::NonZeroU32;
 
 // What is hashed.
 #[derive(Clone, Copy)]
@@ -45,12 +44,12 @@ fn feed_zeros<H, F: Fn(H, &[u8]) -> Result<H, Refusal>>(
     begun: H,
     feed: F,
     n: u32,
-    m: u32,
+    m: NonZeroU32,
 ) -> Result<H, Refusal>
-    requires callable { F.IsAlwaysCallable feed }
-    requires some { 0 < m }
+    requires { F.IsAlwaysCallable feed }
 {
     let zeros = [0u8; 65536];
+    let m = m.get();
     let mut fed = begun;
     for _ in 0..n / m {
         fed = feed(fed, pick_part(&zeros, 0, m as usize))?;
@@ -58,30 +57,21 @@ fn feed_zeros<H, F: Fn(H, &[u8]) -> Result<H, Refusal>>(
     feed(fed, pick_part(&zeros, 0, (n % m) as usize))
 }
 
-// `zeros N M`. That M is not 0 is asked of three functions and tested once, in `read_zeros`.
-fn hash_zeros(n: u32, m: u32) -> Result<Hashed, Refusal>
-    requires { 0 < m }
-{
-    feed_zeros(Sha1::new(), |h, s| h.update(s), n, m)?.finalize()
+// `zeros N M`.
+fn hash_zeros(n: u32, m: NonZeroU32) -> Result<Hashed, Refusal> {
+    feed_zeros(Sha1::new(), Sha1::update, n, m)?.finalize()
 }
 
 // `hmac-zeros N M`: the same under HMAC with a key of twenty bytes 0B.
-fn code_zeros(n: u32, m: u32) -> Result<Hashed, Refusal>
-    requires { 0 < m }
-{
-    feed_zeros(Sha1Hmac::new(&[0x0bu8; 20])?, |h, s| h.feed(s), n, m)?.finalize()
+fn code_zeros(n: u32, m: NonZeroU32) -> Result<Hashed, Refusal> {
+    feed_zeros(Sha1Hmac::new(&[0x0bu8; 20])?, Sha1Hmac::feed, n, m)?.finalize()
 }
 
 // N, and M, which is not 0.
-fn read_zeros(line: &[u8]) -> Option<(u32, u32)>
-    ensures { IfSome result (λ z. 0 < z.1) }
-{
+fn read_zeros(line: &[u8]) -> Option<(u32, NonZeroU32)> {
     let n = cases::read_decimal(line, 1, 0xffff_ffff)?;
     let m = cases::read_decimal(line, 2, 65536)?;
-    if m == 0 {
-        return None;
-    }
-    Some((n, m))
+    Some((n, NonZeroU32::new(m)?))
 }
 
 // What a line gives to tell, unless it is bad: `ok DIGEST blocks B`, or the refusal.

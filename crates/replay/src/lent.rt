@@ -8,11 +8,7 @@ pub fn pick_span(buf: &[u8], p: Span) -> &[u8] {
 
 // The first n bytes; none where there are fewer.
 pub fn lend_part(s: &mut [u8], n: usize) -> &mut [u8] {
-    if n <= s.len() {
-        &mut s[0..n]
-    } else {
-        &mut s[0..0]
-    }
+    s.get_mut(..n).unwrap_or(&mut [])
 }
 
 // The first n bytes of the room, made as they are lent.

@@ -54,7 +54,7 @@ fn make_room(rt: &impl Print, line: Cursor, a: &mut Answer) -> io::Result<()> {
     Ok(())
 }
 
-// Zeros, whose number the check need not count out.
+// Zeros, whose number the check need not count out: so they are made in a function of their own, which a contract keeps closed.
 fn make_zeros<const N: usize>() -> [u8; N]
     ensures { N ≡ length result }
 {

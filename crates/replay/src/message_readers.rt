@@ -18,9 +18,9 @@ pub enum Received {
 // `ok auth A`, `ok integ A`, `ok conf A`.
 fn tell_payload(block: [u8; 8], a: &mut Answer) -> Result<(), Refusal> {
     match AlgorithmPayload::from_data(block)? {
-        AlgorithmPayload::Authentication(x) => a.say_number(b"ok auth ", x as u32),
-        AlgorithmPayload::Integrity(x) => a.say_number(b"ok integ ", x as u32),
-        AlgorithmPayload::Confidentiality(x) => a.say_number(b"ok conf ", x as u32),
+        AlgorithmPayload::Authentication(x) => a.say_number(b"ok auth ", u32::from(x.code())),
+        AlgorithmPayload::Integrity(x) => a.say_number(b"ok integ ", u32::from(x.code())),
+        AlgorithmPayload::Confidentiality(x) => a.say_number(b"ok conf ", u32::from(x.code())),
     }
     Ok(())
 }
@@ -32,9 +32,9 @@ fn tell_opened(message: &[u8], a: &mut Answer) -> Result<(), Refusal> {
     a.say_number(b" level ", u32::from(r.level));
     a.say_id(b" console ", r.console);
     a.say_id(b" system ", r.system);
-    a.say_number(b" auth ", r.authentication as u32);
-    a.say_number(b" integ ", r.integrity as u32);
-    a.say_number(b" conf ", r.confidentiality as u32);
+    a.say_number(b" auth ", u32::from(r.authentication.code()));
+    a.say_number(b" integ ", u32::from(r.integrity.code()));
+    a.say_number(b" conf ", u32::from(r.confidentiality.code()));
     Ok(())
 }
 

@@ -21,43 +21,28 @@ pub fn write_request(line: &[u8], room: &mut [u8]) -> Option<Result<usize, Refus
     Some(request.write_data(room))
 }
 
-// A message 1, but for its name.
-#[derive(Clone, Copy)]
-struct First {
-    tag: u8,
-    system: u32,
-    random: [u8; 16],
-    role: u8,
-}
-
-// A name that makes no username is told before the room is looked at.
-fn write_named(f: First, name: &[u8], room: &mut [u8]) -> Result<usize, Refusal> {
-    let username = Username::new(name)?;
-    let random = f.random;
-    let message = RakpMessage1 {
-        tag: f.tag,
-        system: f.system,
-        random,
-        role: f.role,
-        username,
-    };
-    message.write(room)
-}
-
-// `rakp1 TAG ID RM ROLE NAME ROOM`. Line, buffer and room stay three arguments: of a struct behind a reference only one field is lent at a time.
+// `rakp1 TAG ID RM ROLE NAME ROOM`. A name that makes no username is told before the room is looked at.
 pub fn write_message1(
     line: &[u8],
     buf: &mut [u8],
     room: &mut [u8],
 ) -> Option<Result<usize, Refusal>> {
-    let first = First {
-        tag: read_byte(line, 1)?,
-        system: read_id(line, 2)?,
-        random: read_exact::<16>(line, 3)?,
-        role: read_byte(line, 4)?,
-    };
+    let tag = read_byte(line, 1)?;
+    let system = read_id(line, 2)?;
+    let random = read_exact::<16>(line, 3)?;
+    let role = read_byte(line, 4)?;
     let name = read_bytes(line, 5, buf, 0)?;
-    Some(write_named(first, pick_span(buf, name), room))
+    Some(match Username::new(pick_span(buf, name)) {
+        Ok(username) => RakpMessage1 {
+            tag,
+            system,
+            random,
+            role,
+            username,
+        }
+        .write(room),
+        Err(r) => Err(r),
+    })
 }
 
 // TAG and ID of a message 3.

@@ -3,6 +3,7 @@ use crate::answer::Answer;
 use crate::calls;
 use crate::calls::Call;
 use crate::lent::lend_room;
+use crate::numbers::has_fields;
 use cases::{pick_field, pick_part, read_room};
 use session::Record;
 
@@ -62,11 +63,7 @@ fn read_form(call: &[u8]) -> Option<Form> {
         return None;
     }
     let form = find_form(pick_field(call, 1))?;
-    let n = text::fields(call, b' ');
-    if n < form.least || form.most < n {
-        return None;
-    }
-    Some(form)
+    has_fields(call, form.least, form.most).then_some(form)
 }
 
 // How much room a call is lent.

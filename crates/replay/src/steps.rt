@@ -22,7 +22,7 @@ const STEPS: [Call; 4] = [
     Call::M4 { message: 9 },
 ];
 
-// What the session is.
+// What the session is. `as u32`: these two enums of `suite` have no call for their number, as the algorithms of `messages` have.
 fn say_session(a: &mut Answer, s: SubState) {
     a.say_number(b" ok conf ", s.confidentiality as u32);
     a.say_number(b" integ ", s.integrity as u32);

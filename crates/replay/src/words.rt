@@ -2,6 +2,7 @@
 use crate::answer::Answer;
 use crate::hashes::Summing;
 use crate::message_readers::Received;
+use crate::numbers::has_fields;
 use crate::writers::Writer;
 use crate::{arriving, ciphers, frames, hashes, message_readers, script, steps, writers};
 use aes::Aes128;
@@ -96,11 +97,7 @@ fn find_form(word: &[u8]) -> Option<Form> {
 // The case of a line, if it has as many fields as that asks for.
 fn find_case(line: &[u8]) -> Option<Case> {
     let form = find_form(cases::pick_field(line, 0))?;
-    let n = text::fields(line, b' ');
-    if n < form.least || form.most < n {
-        return None;
-    }
-    Some(form.case)
+    has_fields(line, form.least, form.most).then_some(form.case)
 }
 
 // Tells what a line asks for; None where it is bad.
@@ -116,6 +113,7 @@ fn tell_case(line: &[u8], buf: &mut [u8], room: &mut [u8], a: &mut Answer) -> Op
         Case::Received(which) => message_readers::tell_received(line, which, buf, a),
         Case::Arrive => arriving::tell_arrive(line, a),
         Case::Arrivals => arriving::tell_arrivals(line, a),
+        // Closures: for a name the check looks for the contract in the module `opening`, which `frame` keeps to itself, and finds no file.
         Case::Read => frames::tell_read(line, 0, |s, p| frame::read_payload(s, p), buf, a),
         Case::Datagram => {
             frames::tell_read(line, BEHIND, |s, p| frame::read_datagram(s, p), buf, a)

@@ -12,6 +12,7 @@ use text::Cursor;
 // One byte more than the longest packet, so that a longer input shows as one.
 const ROOM: usize = LONGEST + 1;
 
+// A function of its own: its promise is what refuses a room of another size (docs/PORT.md, room_of_4096 and room_of_4098).
 fn make_room() -> [u8; ROOM]
     ensures { length result ≡ longest + 1 }
 {
@@ -20,7 +21,8 @@ fn make_room() -> [u8; ROOM]
 
 // Goes on after a short read, until the input ends or there is no more room, and answers how many bytes were read: they stand at the
 // room's start. `cost` has a copy, and no public call takes its place: one must promise every byte that it is lent, and what a reader leaves behind the
-// bytes that it gave is its own (docs/DECISIONS.md, Y3). The loop stays a `while`: a read says how far it came, and std's whole reads say too little of the room after an error.
+// bytes that it gave is its own (docs/DECISIONS.md, Y3). The loop stays a `while`: a read says how far it came,
+// and std's whole reads say too little of the room after an error.
 fn read_full<R: Read>(input: &mut R, room: &mut [u8]) -> io::Result<usize>
     ensures bound { IfOk result (λ n. n ≤ length room.new) }
     ensures bytes { IfOk result (λ n.

@@ -27,7 +27,7 @@ struct Message<'a> {
 }
 
 // The least count of pad bytes for whole blocks. This and the next stay two: one for any block would be told the bytes that follow the
-// pad too, and each caller would say two numbers in place of none.
+// pad too, and each caller would say two numbers in place of none. std's `next_multiple_of` would be handed n + 1, which may pass `usize`.
 fn choose_p(n: usize) -> usize
     ensures { result ≡ least_p n }
 {

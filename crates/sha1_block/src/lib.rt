@@ -19,6 +19,8 @@ pub struct Chain {
     e: u32,
 }
 
+// The steps on a Chain are functions and no methods: the public three are, since the pages name them, and `v.do_round(t, w)` says no more.
+
 // The function f_t.
 #[tactic(auto, unfolding(crate::specs::Block::f_t))]
 fn f(t: usize, x: u32, y: u32, z: u32) -> u32
@@ -160,7 +162,8 @@ pub fn blocks(h: Chain, s: &[u8]) -> Chain
     s.as_chunks::<64>().0.iter().fold(h, compress_block)
 }
 
-// The twenty bytes of a chaining value.
+// The twenty bytes of a chaining value. Each byte is named: `as_flattened` over five arrays of four lends a slice, of which a second copy would have
+// to make the array, and a loop over the chunks of zeros is as long and needs an invariant.
 #[tactic(auto, unfolding(crate::specs::Block::sha1_hash))]
 pub fn bytes(h: Chain) -> [u8; 20]
     ensures { result ≡ sha1_hash.code h }

@@ -30,7 +30,7 @@ fn tell_blocks(rt: &impl Print, answer: Result<u32, Refusal>) -> io::Result<()> 
     }
 }
 
-// A running value that takes pieces.
+// A running value that takes pieces. `update` and `feed` keep their names, which the pages have; in sha1_hmac this trait would be public for one loop.
 trait Running {
     fn take(self, s: &[u8]) -> Result<Self, Refusal>;
 }
@@ -72,15 +72,15 @@ fn feed<R: Running>(state: R, a: &[u8; 997], count: usize) -> Result<R, Refusal>
 fn main(rt: HostRuntime) -> io::Result<()> {
     let a = [b'a'; 997];
     let million = feed(Sha1::new(), &a, 1000000);
-    tell(&rt, million.and_then(|h| h.finalize()))?;
+    tell(&rt, million.and_then(Sha1::finalize))?;
     let full = million.and_then(|h| feed(h, &a, LIMIT - 1000000));
-    tell(&rt, full.and_then(|h| h.finalize()))?;
-    tell_blocks(&rt, full.and_then(|h| h.update(b"a")).map(|h| h.blocks()))?;
-    tell(&rt, full.and_then(|h| h.finalize()))?;
+    tell(&rt, full.and_then(Sha1::finalize))?;
+    tell_blocks(&rt, full.and_then(|h| h.update(b"a")).map(Sha1::blocks))?;
+    tell(&rt, full.and_then(Sha1::finalize))?;
     let begun = Sha1Hmac::new(b"Jefe");
-    tell_blocks(&rt, begun.map(|m| m.blocks()))?;
+    tell_blocks(&rt, begun.map(Sha1Hmac::blocks))?;
     let full = begun.and_then(|m| feed(m, &a, LIMIT));
-    tell(&rt, full.and_then(|m| m.finalize()))?;
-    tell_blocks(&rt, full.and_then(|m| m.feed(b"a")).map(|m| m.blocks()))?;
-    tell(&rt, full.and_then(|m| m.finalize()))
+    tell(&rt, full.and_then(Sha1Hmac::finalize))?;
+    tell_blocks(&rt, full.and_then(|m| m.feed(b"a")).map(Sha1Hmac::blocks))?;
+    tell(&rt, full.and_then(Sha1Hmac::finalize))
 }

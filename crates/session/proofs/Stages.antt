@@ -6,13 +6,13 @@ use Rattle.std.specs.Prelude.{Result, Ok, Err}
 use Rattle.refusal.specs.Answer.{told_as, told}
 use mathlib.Core.Bool.{Bool, true, false, cond}
 use mathlib.Core.List.{List}
-use mathlib.Core.Path.{◌≡◌, refl, sym, ◌∙◌}
+use mathlib.Core.Path.{◌≡◌, refl, sym, ◌∙◌, ap}
 use lib.Dec.{eqb}
 use lib.ListN.{length}
 use Rattle.refusal.specs.Order.{Res, refuse, accept, need, and_then}
 use Rattle.refusal.specs.Table.{number_of, value_of, among}
 use Rattle.refusal.specs.declared.Refusal.{Refusal}
-use Rattle.refusal.proofs.Order.{then_refuse, then_accept, refuse_as}
+use Rattle.refusal.proofs.Order.{then_refuse, then_accept, refuse_as, refuse≢accept, accept_inj}
 use Rattle.octets.specs.Place.{begun}
 use Rattle.octets.proofs.Place.{begun_none}
 use Rattle.session.specs.Record.{closed}
@@ -74,6 +74,21 @@ begin_stop R out r y z e k g f =
 pub told_refused : {A B : Type 0} (f : A → B) (r : Result A Refusal) (n v : ℕ) → told_as f r ≡ refuse n v → told r ≡ refuse n v
 told_refused f (Ok a) n v e = grind (arith, common_steps)
 told_refused f (Err q) n v e = grind (arith, common_steps)
+
+-- what a stage found, beside what is made of it
+module _ {A B : Type 0} where
+  pub beside_no : (R : Res A) (f : A → B) (n v : ℕ) → and_then {B = A × B} R (λ a. accept (a, f a)) ≡ refuse n v → R ≡ refuse n v
+  unfolding and_then
+  beside_no (refuse m u) f n v e = refuse_as m u n v e
+  beside_no (accept a) f n v e = absurd (refuse≢accept n v _ (sym e))
+
+  pub beside_yes : (R : Res A) (f : A → B) (a : A) (b : B) → and_then {B = A × B} R (λ a. accept (a, f a)) ≡ accept (a, b) → (R ≡ accept a) × (b ≡ f a)
+  unfolding and_then
+  beside_yes (refuse m u) f a b e = absurd (refuse≢accept m u _ e)
+  beside_yes (accept x) f a b e =
+      let p = accept_inj _ _ e in
+      let q : x ≡ a = ap (λ (t : A × B). t.0) p in
+      (ap accept q, sym (ap (λ (t : A × B). t.1) p) ∙ ap f q)
 
 -- two stages one behind the other
 module _ {A B : Type 0} (T : Res A) (U : Res B) (f : B → Res Made) where

@@ -33,7 +33,8 @@ fn inv_shift_rows(t: [u8; 16]) -> [u8; 16]
     array::from_fn(|i| t[13 * i % 16])
 }
 
-// The first row of a matrix by which a column is multiplied; its other rows are turns of it.
+// The first row of a matrix by which a column is multiplied; its other rows are turns of it. a, b, c and d are the four bytes of a column, as FIPS 197
+// writes a row.
 trait Row {
     ghost product: { ℕ → ℕ → ℕ → ℕ → ℕ };
 
@@ -176,7 +177,8 @@ impl Aes128 {
         Aes128 { keys }
     }
 
-    // The cipher of one block. It takes the key by value: `&self` would be another public signature, and each promise above would speak of what is lent.
+    // The cipher of one block. It takes the key by value: `&self` would be another public signature, and the promises of the crates above
+    // would speak of what is lent.
     pub fn encrypt_block(self, block: [u8; 16]) -> [u8; 16]
         ensures { result ≡ cipher (keys_of self) block }
     {

@@ -27,7 +27,7 @@ fn move_up(seen: u32, d: u32) -> u32
 }
 
 impl Arrivals {
-    // The record of a session that has just been opened. By name, and no derived `Default`: its promise is `fresh` of specs/.
+    // The record of a session that has just been opened. By name and not by a derived `Default`: its promise is `fresh` of specs/.
     pub fn new() -> Arrivals
         ensures { result ≡ fresh }
     {

@@ -7,7 +7,7 @@ use text::Cursor;
 
 #[derive(Clone, Copy)]
 pub struct Input {
-    // What is left of the piece that was read last.
+    // What is left of the piece that was read last: two places and no slice, since `GatherPromise` says where the next line goes on.
     pub from: usize,
     pub to: usize,
     // What has been gathered of the line; full once the line is longer than is taken.

@@ -45,7 +45,8 @@ pub fn pick_field(line: &[u8], k: usize) -> &[u8]
     pick_part(line, at, text::field_end(line, at, b' '))
 }
 
-// Which of the words, parted by spaces, a text is; as many as they are where it is none. No Option: docs/PROMISES.md promises this number.
+// Which of the words, parted by spaces, a text is; as many as they are where it is none. No Option: its promise,
+// `place_of`, tells this number.
 #[tactic(auto, using(crate::proofs::Walk::word_here, crate::proofs::Walk::word_not, crate::proofs::Walk::word_found), unfolding(crate::specs::Fields::field_of))]
 pub fn look_up(words: &[u8], s: &[u8]) -> usize
     ensures { result ≡ place_of s.now (cut 0x20 words.now) }

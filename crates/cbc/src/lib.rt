@@ -19,7 +19,8 @@ pub fn xor_block(a: [u8; 16], b: [u8; 16]) -> [u8; 16]
 
 // Encrypts whole blocks, each chained on the cipher block before it. The two directions stay two functions: which block goes through
 // the cipher before it is added, and which is chained on, is all that a turn does. Both go by index: std
-// does not say what a slice holds once `as_chunks_mut` has lent its blocks. That the blocks are whole is asked here alone, so it has no name.
+// does not say what a slice holds once `as_chunks_mut` has lent its blocks. That the blocks are whole is asked of these two alone in
+// this crate, so it has no name.
 fn encrypt_blocks(a: Aes128, iv: [u8; 16], s: &mut [u8])
     requires { length s.old % 16 ≡ 0 }
     ensures { s.new ≡ encrypt_blocks (keys_of a) iv (length s.old / 16) s.old }

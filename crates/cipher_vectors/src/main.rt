@@ -125,6 +125,7 @@ fn show_end(rt: &impl Print, s: &[u8]) -> io::Result<()> {
     }
 }
 
+// There and back in one go each. Key, IV and bytes stay three arguments here and below, as the two calls of CBC take them.
 fn go_there_and_back(rt: &impl Print, key: [u8; 16], iv: [u8; 16], s: &mut [u8]) -> io::Result<()> {
     tell(rt, cbc::cbc_encrypt(key, iv, s))?;
     show_end(rt, s)?;
@@ -167,8 +168,8 @@ fn decrypt_and_hand_on(key: [u8; 16], iv: [u8; 16], s: &mut [u8]) -> [u8; 16]
     next
 }
 
-// Whole blocks in two goes, the first over k bytes, are what one call makes of them. Key, IV and k are no struct: the laws that these contracts
-// cite take the three apart.
+// Whole blocks in two goes, the first over k bytes, are what one call makes of them. Key, IV and k are no struct: the definitions that these
+// contracts cite take the three apart. `Cut` is asked where the cut is used: no type says it of a slice and a place in it.
 fn encrypt_in_two(key: [u8; 16], iv: [u8; 16], k: usize, s: &mut [u8])
     requires { Cut k s.old }
     ensures { s.new ≡ cbc_encrypt key iv s.old }

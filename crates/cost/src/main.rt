@@ -252,7 +252,7 @@ fn run(rt: &impl Print, given: &[u8], bytes: &[u8]) -> io::Result<bool> {
 
 // Goes on after a short read, until the input ends or there is no more room, and answers how many bytes were read: they stand at the
 // room's start. The loop stays: a read says how far it came, and std's whole reads say too little of the room after an error. `report` has a copy,
-// and no library has it: a public call must promise every byte that it is lent, and what a reader leaves behind its bytes is its own.
+// and no library hands it out: a public call must promise every byte that it is lent, and what a reader leaves behind its bytes is its own.
 fn read_full<R: io::Read>(input: &mut R, room: &mut [u8]) -> io::Result<usize>
     ensures bound { IfOk result (λ n. n ≤ length room.new) }
     ensures bytes { IfOk result (λ n.

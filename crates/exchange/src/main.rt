@@ -141,7 +141,8 @@ fn read_back(rt: &impl Print, datagram: &mut [u8]) -> io::Result<()> {
     }
 }
 
-// An open session and the record of what arrived in it, which the console holds together.
+// An open session and the record of what arrived in it, which the console holds together. `night_desk` has the same
+// struct: a library for two fields of two programs would be no plainer.
 #[derive(Clone, Copy)]
 struct Held {
     session: SubState,

@@ -2,7 +2,7 @@
 ghost use Rattle.std.specs.Prelude.{◌≡◌, ◌+◌};
 ghost use Rattle.framing.specs.Payload.{payload_start, payload_of, payload_at};
 
-// Where a payload begins: behind the header, and behind the IV where there is one. Both take a bool, and no `Confidentiality`: so do
+// Where a payload begins: behind the header, and behind the IV where there is one. This and `payload` take a bool and no `Confidentiality`: so do
 // `payload_start` and `payload_of`, and callers hand in what `encrypts` answers.
 fn find_start(encrypted: bool) -> usize
     ensures { result ≡ payload_start encrypted }

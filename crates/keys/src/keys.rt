@@ -16,7 +16,7 @@ impl Keys {
     {
         let first = sha1_hmac::hmac(&sik, &[1u8; 20]).unwrap();
         let second = sha1_hmac::hmac(&sik, &[2u8; 20]).unwrap();
-        // The two by names: an array field that stands straight in a literal has no proof yet, the borrow checker says.
+        // By variables: the borrow checker takes no array out of a field straight into a literal.
         let k1 = first.digest;
         let k2 = second.digest;
         Keys { sik, k1, k2 }

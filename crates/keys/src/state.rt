@@ -17,7 +17,7 @@ use refusal::Refusal;
 use sha1_hmac::{Hashed, Sha1Hmac};
 
 // The role byte and the user's name: the first `len` of sixteen bytes. A length over 16 counts as 16. There is no heap to hold a name of its own
-// length. The name is no Username: `messages` stands on no code, this crate on no message, and N (docs/RULES.md, 5.2) is bytes in both.
+// length. The name is no Username: `messages` knows no codes, this crate no messages, and N (docs/RULES.md, 5.2) is bytes in both.
 #[derive(Clone, Copy)]
 pub struct Named {
     pub role: u8,
@@ -26,7 +26,8 @@ pub struct Named {
 }
 
 // The key that makes the SIK: the Kg if one was lent, else the password. No other place chooses between the two.
-// No Kg is an empty slice and no None: rule table 35 counts 0 bytes as absent (docs/DECISIONS.md, E4), so Some of none would say it a second time.
+// That no Kg is lent is said by an empty slice and not by None: refusal 35 counts 0 bytes as absent (docs/DECISIONS.md, E4), so Some of none would
+// say it a second time.
 pub fn kg<'a>(kg: &'a [u8], password: &'a [u8]) -> &'a [u8]
     ensures { (result.now ≡ key_of kg.now password.now)
         × (result.ref_ptr ≡ cond (absent kg.now) password.entry.ref_ptr kg.entry.ref_ptr) }

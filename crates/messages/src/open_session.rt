@@ -38,6 +38,7 @@ impl AlgorithmPayload {
         }
     }
 
+    // What eight bytes say. No TryFrom of a byte: the type and the code of a block decide together, and each has its own refusal (`block_of`).
     #[tactic(auto, unfolding(crate::specs::Block::block_of, crate::specs::Block::known, refusal::specs::Order::need, refusal::specs::Order::and_then))]
     pub fn from_data(block: [u8; 8]) -> Result<AlgorithmPayload, Refusal>
         ensures { told_block result ≡ block_of block }

@@ -78,7 +78,7 @@ pub(crate) fn make_head(tag: u8, level_or_status: u8, id: u32) -> [u8; HEAD]
 }
 
 // Four pieces of a message, one after another from the output's start. Four parameters and no slice of slices: that would take a loop with an
-// invariant, a definition of what the pieces make together (`joined` is of hmac, below which this crate stands) and its laws, for four lines.
+// invariant, a definition of what the pieces make together (`joined` is of hmac, on which this crate does not stand) and its laws, for four lines.
 pub(crate) fn put_pieces(out: &mut [u8], first: &[u8], second: &[u8], third: &[u8], fourth: &[u8])
     requires { length first.now + length second.now + length third.now + length fourth.now ≤ length out.old }
     ensures { out.new ≡ begun (first.now ++ second.now ++ third.now ++ fourth.now) out.old }

@@ -32,6 +32,7 @@ pub enum End {
 }
 
 impl End {
+    // As it is shown. No discriminants: `Refused` carries its number.
     fn number(self) -> u16 {
         match self {
             End::Accepted => 0,

@@ -41,8 +41,8 @@ pub fn cut<const N: usize>(s: &[u8], at: usize) -> [u8; N]
     b
 }
 
-// The number that the two bytes from `at` on say, the low byte first; bytes past the end count as 0. This and the next stay two: their types differ, and
-// a sum of any number of bytes fits none.
+// The number that the two bytes from `at` on say, the low byte first; bytes past the end count as 0. This and the next stay two: their types
+// differ, a number of any count of bytes fits no type, and no public call has a `requires`.
 pub fn load_le2(s: &[u8], at: usize) -> u16
     ensures { result ≡ unle (part s.now at 2) }
 {

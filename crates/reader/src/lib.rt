@@ -19,7 +19,7 @@ use suite::{Code, PayloadType, SubState};
 mod body;
 
 // What reading a packet finds: type, ids and the payload's length. A length and no slice: the payload is there to be read once the packet
-// was opened in its own buffer, which a slice would hold lent; with the length frame's `payload` finds it.
+// was opened in its own buffer, which a slice would hold lent; with the length, frame's `payload` finds it.
 #[derive(Clone, Copy)]
 pub struct Accepted {
     pub ty: PayloadType,
@@ -38,7 +38,7 @@ pub struct Read {
 // Session and packet stay two arguments: a stage hands the session on beside a shorter packet, so one value for both would be
 // built anew at every stage.
 
-// Whether the flags of a packet say that it ends with a code. Of the bit 0x80 the check finds the proof alone.
+// Whether the flags of a packet say that it ends with a code. For the bit 0x80 the check finds the proof without a function.
 fn has_code_bit(flags: u8) -> bool
     ensures { bit result ≡ flags / 64 % 2 }
 {

@@ -20,9 +20,9 @@ fn make_room() -> [u8; ROOM]
 }
 
 // Goes on after a short read, until the input ends or there is no more room, and answers how many bytes were read: they stand at the
-// room's start. `cost` has a copy, and no public call takes its place: one must promise every byte that it is lent, and what a reader leaves behind the
-// bytes that it gave is its own (docs/DECISIONS.md, Y3). The loop stays a `while`: a read says how far it came,
-// and std's whole reads say too little of the room after an error.
+// room's start. `cost` has a copy, and no public call takes its place: one must promise every byte that it is lent, and what a reader leaves
+// behind the bytes that it gave is its own (docs/DECISIONS.md, Y3). The loop stays a `while`: a read says how far it came, and std's whole
+// reads say too little of the room after an error.
 fn read_full<R: Read>(input: &mut R, room: &mut [u8]) -> io::Result<usize>
     ensures bound { IfOk result (λ n. n ≤ length room.new) }
     ensures bytes { IfOk result (λ n.

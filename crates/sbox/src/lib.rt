@@ -12,7 +12,7 @@ mod forward;
 use backward::INV_SBOX;
 use forward::SBOX;
 
-// The product by x: shifted by one place, and where bit 7 was set, reduced, in sums as the definition of FIPS 197, 4.2, is written in specs/.
+// The product by x: shifted by one place, and where bit 7 was set, reduced; written as specs/ have the definition of FIPS 197, 4.2.
 #[tactic(auto, unfolding(crate::specs::Field::xtime))]
 pub fn xtime(x: u8) -> u8
     ensures { result ≡ xtime x }

@@ -99,8 +99,8 @@ fn decline(state: Record, out: &mut [u8]) -> Stepped
     }
 }
 
-// Role byte and name of the user, which every code covers. The name goes through a variable: the borrow checker does not take an array that is
-// read from a field into a literal straight.
+// Role byte and name of the user, which every code covers. The name by a variable: the borrow checker takes no array out of a field
+// straight into a literal.
 #[tactic(auto, unfolding(crate::specs::Steps::who, messages::specs::Name::name_of))]
 fn name_user(state: Record) -> Named
     ensures { named_of result ≡ who state }

@@ -79,7 +79,8 @@ pub struct Record {
 }
 
 // What a step leaves: the record, its answer, and how many bytes it wrote. A refusal may have written too, the
-// message that declines, and each leaves a record: so the three stand side by side.
+// message that declines, and each leaves a record: so the three stand side by side. A length and no slice: what was
+// written stands in the output that the caller lent.
 #[derive(Clone, Copy)]
 pub struct Stepped {
     pub state: Record,

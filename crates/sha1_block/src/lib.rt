@@ -21,7 +21,7 @@ pub struct Chain {
 
 // The steps on a Chain are functions and no methods: the public three are, since the pages name them, and `v.do_round(t, w)` says no more.
 
-// The function f_t.
+// The function f_t. FIPS 180-4 gives one for each twenty rounds, by the number of the round: so the number is matched, here and in `k`.
 #[tactic(auto, unfolding(crate::specs::Block::f_t))]
 fn f(t: usize, x: u32, y: u32, z: u32) -> u32
     ensures { result ≡ f_t t x y z }

@@ -21,7 +21,8 @@ pub use mac::{Sha1Hmac, hmac};
 // More bytes than this, all pieces together, are refused.
 pub const LIMIT: usize = 1048576;
 
-// The blocks compressed so far are counted in `blocks`. There is no heap to hold the bytes that wait: the first `len % 64` bytes of `buf` wait; the others are zero.
+// The blocks compressed so far are counted in `blocks`. There is no heap to hold the bytes that wait: they are the first `len % 64` of `buf`, and
+// the others are zero.
 // No ghost field bounds `len`, though `finalize` could then not fail: the end refuses a state past the limit (docs/RULES.md, 3.10; docs/DECISIONS.md,
 // H10), promises hold for every value of the fields, and so the counts are wrapping sums (H3). `len % 64` is written out where it is used: a method
 // for it would need a clause that says the same again, and the promises of those who call it speak of `len % 64`.

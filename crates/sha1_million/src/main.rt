@@ -30,7 +30,8 @@ fn tell_blocks(rt: &impl Print, answer: Result<u32, Refusal>) -> io::Result<()> 
     }
 }
 
-// A running value that takes pieces. `update` and `feed` keep their names, which the pages have; in sha1_hmac this trait would be public for one loop.
+// A running value that takes pieces. `update` and `feed` keep their names, which the pages have; in sha1_hmac this trait would be public
+// for one loop.
 trait Running {
     fn take(self, s: &[u8]) -> Result<Self, Refusal>;
 }

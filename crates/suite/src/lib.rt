@@ -79,7 +79,7 @@ pub struct SubState {
 // The RMCP header of an IPMI packet.
 pub const OUTER: [u8; 4] = *b"\x06\x00\xff\x07";
 
-// This and the next three are functions and no methods: `frame` hands out `code_len` and `encrypts` as such, and `code_len_only` and the
+// The next four are functions and no methods: `frame` hands out `code_len` and `encrypts` as such, and `code_len_only` and the
 // other theorems of no second answer name all four.
 
 // The code's length, the one place that has it. A session without integrity has no code, and the same ceiling. A match, so
@@ -130,7 +130,7 @@ pub fn make_code(s: SubState, bytes: &[u8]) -> Code
 {
     match sha1_hmac::hmac(&s.keys.k1, bytes) {
         Ok(h) => {
-            // by a variable: tried as `code: h.digest`, which the check refuses, since it does not follow an array from field to field
+            // by a variable: the borrow checker takes no array out of a field straight into a literal
             let code = h.digest;
             Code {
                 code,

@@ -5,7 +5,7 @@ ghost use Rattle.text.specs.Promise.{AddPromise};
 use crate::write::{Cursor, add, decimal, hex8};
 use refusal::Refusal;
 
-// The numbers of a packet that was read.
+// The numbers of a packet that was read, as its line tells them; of the payload that is the length alone.
 #[derive(Clone, Copy)]
 pub struct Packet {
     pub kind: u8,

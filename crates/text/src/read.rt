@@ -12,8 +12,8 @@ pub enum UnhexError {
 }
 
 // The digit that a character is, 16 where it is none.
-// No Option: `put_bytes` reads digits that `is_hex` has tested, since a bad text may change nothing, and would have to make up a byte for a `None`
-// that never comes. 16 is no digit in any base up to 16, so `read_number` still refuses both kinds of character by one test.
+// No Option: `put_bytes` reads digits that `is_hex` has tested, since a bad text may change nothing, and `unwrap` there would owe a proof at
+// each digit. 16 is no digit in any base up to 16, so `read_number` still refuses both kinds of character by one test.
 #[tactic(auto, unfolding(crate::specs::Digits::worth))]
 fn read_digit(c: u8) -> u8
     ensures { result ≡ worth c }

@@ -46,8 +46,8 @@ fn spell_digit(d: u8) -> u8
     if d < 10 { 48 + d } else { 87 + d }
 }
 
-// By hand, as hex below: std's `fmt` writes numbers too, but no promise of std tells the bytes that it writes, and `AddPromise` tells each.
-// Puts n in decimal at the end of the twenty bytes, which any u64 fits, and answers where it starts.
+// Puts n in decimal at the end of the twenty bytes, which any u64 fits, and answers where it starts. By hand, as hex below: std's `fmt` writes
+// numbers too, but no promise of std tells the bytes that it writes, and `AddPromise` tells each.
 fn put_decimal(out: &mut [u8; 20], n: u64) -> usize
     ensures { (result ≤ length out.new) × (drop result out.new ≡ decimal n) }
 {

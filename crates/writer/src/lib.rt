@@ -16,7 +16,8 @@ ghost use Rattle.framing.specs.Outer.{write_of, write_datagram_of};
 use refusal::Refusal;
 use suite::{Confidentiality, PayloadType, SubState};
 
-// What a packet says, and the IV of its body where that is encrypted.
+// What a packet says, and the IV of its body where that is encrypted. Session and output stay arguments beside it: a packet does not say its session,
+// and the output is lent in parts.
 #[derive(Clone, Copy)]
 struct Message<'a> {
     ty: PayloadType,

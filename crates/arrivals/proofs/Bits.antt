@@ -1,4 +1,5 @@
--- Laws of marks, from std's laws of the bits of a number: which marks a sum bit by bit, a shift and made bits have, and how many.
+-- Laws of marks, from std's laws of the bits of a number: what bits are made of, which marks a sum bit by bit, a shift and made bits have, and
+-- how many.
 use Prim.Native.Nat.{ℕ, zero, suc, ◌+◌, ◌-◌, ◌*◌, ◌/◌, ◌%◌, ◌^◌, ◌<◌, ◌≤◌, max}
 use native.Mathlib.Nat.{mod-lt, mod-one, mod-eq_of_lt, add_comm, div-eq_of_lt, pow-suc}
 use native.Mathlib.Omega.{arith}
@@ -72,6 +73,15 @@ unfolding mark_of
 bits_known s w f h e =
     same_from_bits_below w s (bits_of f w) h (bits_lt f w)
     (λ k l. digit_same _ (bit_at-lt s k) _ (bit_at-lt (bits_of f w) k) (e k l ∙ sym (mark_bits f w k l)))
+
+-- the marks below the width of a number's low bits are its own
+mark_low : (s w k : ℕ) → k < w → mark_of (s % 2 ^ w) k ≡ mark_of s k
+unfolding mark_of
+mark_low s w k h = ap (λ (x : ℕ). eqb x 1) (sym (bit_at_cat_low (s / 2 ^ w) w (s % 2 ^ w) k h) ∙ ap (λ (x : ℕ). bit_at x k) (split s w))
+
+-- the bits of a number's own marks are its low bits
+pub bits_own : (s w : ℕ) → bits_of (mark_of s) w ≡ s % 2 ^ w
+bits_own s w = sym (bits_known (s % 2 ^ w) w (mark_of s) (mod-lt s (pow_pos w)) (mark_low s w))
 
 -- the marks of a sum bit by bit
 max_odd : (x : ℕ) → x < 2 → (y : ℕ) → y < 2 → eqb (max x y) 1 ≡ (eqb x 1 || eqb y 1)

@@ -3,3 +3,4 @@ pub mod Walk
 pub mod Reading
 pub mod Gathering
 pub mod Only
+pub mod Saying

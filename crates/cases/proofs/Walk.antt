@@ -2,18 +2,22 @@
 use Prim.Native.Nat.{ℕ, zero, suc, ◌+◌, ◌-◌, ◌≤◌, ◌<◌}
 use native.Mathlib.Omega.{arith}
 use native.Mathlib.Numerals.{add-one}
-use mathlib.Core.Bool.{Bool, true, false, ◌&&◌}
+use mathlib.Core.Bool.{Bool, true, false, cond, ◌&&◌}
 use mathlib.Core.List.{List, [], ◌∷◌}
 use mathlib.Core.Logic.{◌⊎◌, inl, inr, ⊎_elim}
 use mathlib.Core.Path.{◌≡◌, refl, sym, ◌∙◌, ap}
 use lib.ListN.{length, get_or, take, drop, length-drop, length-take, drop_of_length-le}
-use lib.Dec.{eqb}
+use lib.Dec.{eqb, ltb}
 use lib.Pointwise.{pointwise}
 use lib.Seq.{drop-cons, drop-drop, get_or-drop}
-use borrow.Author.Tests.{lt-ltb, le-ltb}
+use borrow.Author.Tests.{lt-ltb, le-ltb, ltb-false}
+use Rattle.std.specs.List.{position, position_or_len, slice_split, onto_first}
+use Rattle.std.specs.Option.{unwrap_or}
+use Rattle.std.specs.Prelude.{Option, Some, None}
+use Rattle.std.proofs.lemmas.List.Recursion.{is_position_or_len}
 use Rattle.octets.specs.Equal.{same}
 use Rattle.octets.proofs.Order.{lt_or_le}
-use Rattle.text.specs.Fields.{upto, cut}
+use Rattle.text.specs.Fields.{upto, on_first, cut}
 use Rattle.text.proofs.Cuts.{upto_take, walk_on, walk_end}
 use Rattle.cases.specs.Fields.{part_of, part_at, past_of, behind, behind_at, field_of, place_of}
 use Rattle.cases.proofs.Parts.{part_there, part_at_inside}
@@ -160,6 +164,17 @@ module _ (s : List ℕ) (ws : List (List ℕ)) (k : ℕ) (p : place_of s ws ≡ 
       let o : place_of s (drop (suc k) ws) ≡ place_of s (drop (k + 1) ws) = ap (λ (j : ℕ). place_of s (drop j ws)) (sym (add-one k)) in
       omega arith
 
+-- the fields are the parts of std's `split`
+onto_on : (x : ℕ) (fs : List (List ℕ)) → onto_first x fs ≡ on_first x fs
+onto_on x [] = refl
+onto_on x (f ∷ fs) = refl
+
+split_cut : (c : ℕ) (l : List ℕ) → slice_split (λ x. eqb x c) l ≡ cut c l
+split_cut c [] = refl
+split_cut c (x ∷ l) =
+    ap (λ (q : List (List ℕ)). cond (eqb x c) ([] ∷ q) (onto_first x q)) (split_cut c l)
+    ∙ ap (λ (q : List (List ℕ)). cond (eqb x c) ([] ∷ cut c l) q) (onto_on x (cut c l))
+
 -- std's `==` of lists of bytes says the same as `same`
 same_eq : (f s : List ℕ) → pointwise eqb f s ≡ same f s
 same_eq [] [] = refl
@@ -170,3 +185,37 @@ same_eq (x ∷ f) (y ∷ s) = ap (λ (t : Bool). eqb x y && t) (same_eq f s)
 -- what the comparison with a field told
 pub word_found : (f w s : List ℕ) (t u : Bool) → f ≡ w → t ≡ pointwise eqb f s → t ≡ u → same w s ≡ u
 word_found f w s t u e g h = ap (λ (q : List ℕ). same q s) (sym e) ∙ sym (g ∙ same_eq f s) ∙ h
+
+-- a word stands where std's `position` finds it
+place_position : (s : List ℕ) (ws : List (List ℕ)) → place_of s ws ≡ position_or_len (λ w. pointwise eqb w s) ws
+place_position s ws = is_position_or_len (place_of s) (λ w. pointwise eqb w s) refl first ws
+  where
+    first : (w : List ℕ) (m : List (List ℕ)) → place_of s (w ∷ m) ≡ cond (pointwise eqb w s) 0 (1 + place_of s m)
+    first w m = ap (λ (t : Bool). cond t 0 (suc (place_of s m))) (sym (same_eq w s)) ∙ by_test (pointwise eqb w s)
+      where
+        by_test : (t : Bool) → cond t 0 (suc (place_of s m)) ≡ cond t 0 (1 + place_of s m)
+        by_test true = refl
+        by_test false = omega arith
+
+place_within : (s : List ℕ) (ws : List (List ℕ)) → place_of s ws ≤ length ws
+place_within s [] = omega arith
+place_within s (w ∷ ws) = by_test (same w s) (place_within s ws)
+  where
+    by_test : (t : Bool) → place_of s ws ≤ length ws → cond t 0 (suc (place_of s ws)) ≤ length (w ∷ ws)
+    by_test true h = omega arith
+    by_test false h = omega arith
+
+-- and where it finds none, its place is how many words there are
+word_or_all : (s : List ℕ) (ws : List (List ℕ)) → unwrap_or (position (λ w. pointwise eqb w s) ws) (length ws) ≡ place_of s ws
+word_or_all s ws = rw (sym (place_position s ws)) (by_test (ltb (place_of s ws) (length ws)) refl)
+  where
+    by_test : (t : Bool) → ltb (place_of s ws) (length ws) ≡ t → unwrap_or (cond t (Some (place_of s ws)) None) (length ws) ≡ place_of s ws
+    by_test true h = refl
+    by_test false h = omega (arith, place_within s ws, ltb-false (place_of s ws) (length ws) h)
+
+-- the same of what it found among the parts of std's `split`
+pub word_place : (s l : List ℕ) (r : Option ℕ) → r ≡ position (λ w. pointwise eqb w s) (slice_split (λ x. eqb x 0x20) l)
+    → unwrap_or r (length (cut 0x20 l)) ≡ place_of s (cut 0x20 l)
+word_place s l r e =
+    ap (λ (o : Option ℕ). unwrap_or o (length (cut 0x20 l))) (e ∙ ap (position (λ w. pointwise eqb w s)) (split_cut 0x20 l))
+    ∙ word_or_all s (cut 0x20 l)

@@ -47,15 +47,11 @@ pub fn pick_field(line: &[u8], k: usize) -> &[u8]
 
 // Which of the words, parted by spaces, a text is; as many as they are where it is none. No Option: its promise,
 // `place_of`, tells this number.
-#[tactic(auto, using(crate::proofs::Walk::word_here, crate::proofs::Walk::word_not, crate::proofs::Walk::word_found), unfolding(crate::specs::Fields::field_of))]
 pub fn look_up(words: &[u8], s: &[u8]) -> usize
     ensures { result ≡ place_of s.now (cut 0x20 words.now) }
 {
-    let n = text::fields(words, b' ');
-    for k in 0..n {
-        if pick_field(words, k) == s {
-            return k;
-        }
+    match words.split(|b| *b == b' ').position(|w| w == s) {
+        Some(k) => k,
+        None => text::fields(words, b' '),
     }
-    n
 }

@@ -214,7 +214,9 @@ impl Verb {
 
 // The payload's length for a digit, 0 where there is none for it. No Option: with one the compiler knows that a payload is never empty, and
 // leaves out a part of the writing that is to be counted (32 instructions a turn).
-fn find_size(digit: u8) -> usize {
+fn find_size(digit: u8) -> usize
+    ensures { result ≤ 1024 }
+{
     match digit {
         b'0' => 7,
         b'1' => 64,

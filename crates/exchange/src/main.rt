@@ -113,32 +113,25 @@ fn make_system_session() -> Result<SubState, Refusal> {
     })
 }
 
-// A line of the payload that was read out of a datagram.
-fn print_payload(
-    rt: &impl Print,
-    label: &[u8],
-    session: SubState,
-    datagram: &[u8],
-    len: usize,
-) -> io::Result<()> {
-    let encrypted = frame::encrypts(session.confidentiality);
-    match datagram.get(4..) {
-        Some(packet) => print_line(rt, label, frame::payload(packet, encrypted, len)),
-        None => Ok(()),
-    }
-}
-
-// What the system reads of a datagram.
+// What the system reads of a datagram. The reading stands here as README.md's first example has it.
 fn read_back(rt: &impl Print, datagram: &mut [u8]) -> io::Result<()> {
     let label = b"read back ";
     let session = match make_system_session() {
         Ok(session) => session,
         Err(why) => return print_refusal(rt, label, why),
     };
-    match frame::read_datagram(session, datagram).answer {
-        Ok(accepted) => print_payload(rt, label, session, datagram, accepted.len),
-        Err(why) => print_refusal(rt, label, why),
+    let r = frame::read_datagram(session, datagram);
+    if let Ok(a) = r.answer {
+        if let Some(packet) = datagram.get(4..) {
+            let encrypted = frame::encrypts(session.confidentiality);
+            let payload = frame::payload(packet, encrypted, a.len);
+            print_line(rt, label, payload)?;
+        }
     }
+    if let Err(why) = r.answer {
+        print_refusal(rt, label, why)?;
+    }
+    Ok(())
 }
 
 // An open session and the record of what arrived in it, which the console holds together. `night_desk` has the same
@@ -156,6 +149,21 @@ impl Held {
             session,
             arrivals: Arrivals::new(),
         }
+    }
+}
+
+// A line of the payload that was read out of a datagram.
+fn print_payload(
+    rt: &impl Print,
+    label: &[u8],
+    session: SubState,
+    datagram: &[u8],
+    len: usize,
+) -> io::Result<()> {
+    let encrypted = frame::encrypts(session.confidentiality);
+    match datagram.get(4..) {
+        Some(packet) => print_line(rt, label, frame::payload(packet, encrypted, len)),
+        None => Ok(()),
     }
 }
 
@@ -188,14 +196,14 @@ fn print_keys(rt: &impl Print, k: Keys) -> io::Result<()> {
 }
 
 fn main(rt: HostRuntime) -> io::Result<()> {
-    let session = match session::sub_state(open_session(&rt)?) {
-        Ok(session) => session,
+    let console = match session::sub_state(open_session(&rt)?) {
+        Ok(session) => Held::new(session),
         Err(why) => return print_refusal(&rt, b"session ", why),
     };
-    print_keys(&rt, session.keys)?;
+    print_keys(&rt, console.session.keys)?;
     let mut out = [0u8; 64];
     let w = frame::write_datagram(
-        session,
+        console.session,
         PayloadType::IpmiMessage,
         0x4a7134e0,
         1,
@@ -209,5 +217,5 @@ fn main(rt: HostRuntime) -> io::Result<()> {
         print_line(&rt, b"datagram ", datagram)?;
         read_back(&rt, datagram)?;
     }
-    read_answer_twice(&rt, Held::new(session))
+    read_answer_twice(&rt, console)
 }

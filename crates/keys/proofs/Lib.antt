@@ -1,4 +1,5 @@
 pub mod Pieces
+pub mod Running
 pub mod Named
 pub mod Texts
 pub mod Told

@@ -1,11 +1,13 @@
--- The name in its sixteen bytes.
-use Prim.Native.Nat.{ℕ, ◌≤◌, ◌<◌, min}
+-- The name in its sixteen bytes, and the first bytes of a code.
+use Prim.Native.Nat.{ℕ, zero, suc, ◌≤◌, ◌<◌, min}
 use native.Mathlib.Omega.{arith}
 use mathlib.Core.List.{List, [], ◌∷◌, ◌++◌, append_assoc}
 use mathlib.Core.Logic.{⊎_elim}
-use mathlib.Core.Path.{◌≡◌, sym, ◌∙◌, ap, ap₂}
-use lib.ListN.{length, take, length-take}
-use lib.Seq.{take_all}
+use mathlib.Core.Path.{◌≡◌, refl, sym, ◌∙◌, ap, ap₂}
+use lib.ListN.{length, take, get_or, length-take}
+use lib.Seq.{take_all, take-suc}
+use Rattle.octets.specs.Place.{part, filled}
+use Rattle.octets.proofs.Filled.{filled-part}
 use Rattle.octets.proofs.Order.{lt_or_le}
 use Rattle.keys.specs.Named.{named_of}
 use Rattle.keys.specs.declared.state.Named.{Named}
@@ -25,3 +27,16 @@ named_text l w m h e =
     let f : m ≡ min w.len (length w.name) = e ∙ ap (min w.len) (sym h) in
     append_assoc l (w.role ∷ m ∷ []) (take m w.name)
     ∙ ap₂ (λ (x : ℕ) (y : List ℕ). l ++ (w.role ∷ x ∷ y)) (f ∙ sym (length-take w.len w.name)) (ap (λ (k : ℕ). take k w.name) f ∙ take_min w.len w.name)
+
+-- the first n bytes of a list, read one by one
+abbrev pub reads : ℕ → List ℕ → List ℕ
+reads zero d = []
+reads (suc n) d = reads n d ++ (get_or d n 0 ∷ [])
+
+pub reads_take : (n : ℕ) (d : List ℕ) → n ≤ length d → reads n d ≡ take n d
+reads_take zero d h = refl
+reads_take (suc n) d h = ap (λ (l : List ℕ). l ++ (get_or d n 0 ∷ [])) (reads_take n d (omega arith)) ∙ sym (take-suc d n 0 (omega arith))
+
+-- cut out at once they are the same
+pub cut_reads : (n : ℕ) (d : List ℕ) → n ≤ length d → filled n (part d 0 n) ≡ reads n d
+cut_reads n d h = filled-part n d 0 (omega arith) ∙ sym (reads_take n d h)

@@ -62,6 +62,12 @@ module _ (s : RakpMessage1) (k : length s.random ≡ 16) (n : ℕ) (e : n ≡ le
       let g = size1 in
       write_yes (message1 s) out (28 + n) x (omega arith) (sym g) (f ∙ rw (a, b, e))
 
+  -- the random number may be told in other words
+  pub write1_told : (head random name x : List ℕ) → 28 + n ≤ length out → head ≡ s.tag ∷ 0 ∷ 0 ∷ 0 ∷ le 4 s.system
+      → random ≡ s.random → name ≡ name_of s.username → x ≡ begun (head ++ random ++ (s.role ∷ 0 ∷ 0 ∷ n ∷ []) ++ name) out
+      → WritePromise (message1 s) out (Ok (28 + n)) x
+  write1_told head random name x h a r b f = write1_yes head name x h a b (rw r at f)
+
 -- what a caller with room enough learns of a writer
 pub wrote : (bytes out : List ℕ) (r : Result ℕ Refusal) (x : List ℕ) → WritePromise bytes out r x → length bytes ≤ length out
     → (told_written r ≡ accept (length bytes)) × (x ≡ begun bytes out)

@@ -2,14 +2,16 @@
 use Prim.Native.Nat.{ℕ, zero, suc, ◌+◌, ◌-◌, ◌*◌, ◌/◌, ◌%◌, ◌^◌, ◌<◌, ◌≤◌}
 use native.Mathlib.Omega.{arith}
 use mathlib.Core.List.{List, [], ◌∷◌, ◌++◌, append-nil, reverse}
+use mathlib.Core.Logic.{⊎_elim}
 use mathlib.Core.Path.{◌≡◌, refl, sym, ◌∙◌, ap, ap₂}
-use lib.ListN.{length, set, take}
-use lib.Seq.{append_snoc}
+use lib.ListN.{length, get_or, set, take, drop_of_length-le, get_or-eq_default}
+use lib.Seq.{drop-cons, append_snoc}
 use Rattle.std.proofs.lemmas.List.{reverse-append, take_more_set}
 use Rattle.std.specs.Int.{from_le_bytes, w16, w32}
 use Rattle.octets.specs.Bytes.{Bytes}
 use Rattle.octets.specs.Number.{le, unle, be, onto, unbe}
-use Rattle.octets.specs.Place.{filled}
+use Rattle.octets.specs.Place.{part, filled}
+use Rattle.octets.proofs.Order.{lt_or_le}
 use Rattle.octets.proofs.Bytes.{bytes_nil, bytes_cons, bytes_tail, bytes_append}
 
 -- one byte more is written: those so far and those of what is left are the number's
@@ -73,6 +75,35 @@ be-onto w n (b ∷ l) h =
 -- bytes come back
 pub be-unbe : (l : List ℕ) → Bytes l → be (length l) (unbe l) ≡ l
 be-unbe l h = let e : length l ≡ length l + 0 = omega arith in ap (λ (k : ℕ). be k (unbe l)) e ∙ be-onto 0 0 l h
+
+-- the number of the w bytes from a + k on, byte by byte; past the end there are zeros
+abbrev pub sum : ℕ → List ℕ → ℕ → ℕ → ℕ
+sum zero l a k = 0
+sum (suc w) l a k = get_or l (a + k) 0 + 256 * sum w l a (k + 1)
+
+sum_past : (w : ℕ) (l : List ℕ) (a k : ℕ) → length l ≤ a + k → sum w l a k ≡ 0
+sum_past zero l a k h = refl
+sum_past (suc w) l a k h =
+    let g : length l ≤ a + (k + 1) = omega arith in
+    omega (arith, get_or-eq_default l 0 h, sum_past w l a (k + 1) g)
+
+unle_from : (w : ℕ) (l : List ℕ) (a k : ℕ) → unle (part l (a + k) w) ≡ sum w l a k
+unle_from zero l a k = refl
+unle_from (suc w) l a k =
+    ⊎_elim
+    (λ (h : a + k < length l).
+    let e : suc (a + k) ≡ a + (k + 1) = omega arith in
+    ap (λ (m : List ℕ). unle (take (suc w) m)) (drop-cons l (a + k) 0 h)
+    ∙ ap (λ (j : ℕ). get_or l (a + k) 0 + 256 * unle (part l j w)) e
+    ∙ ap (λ (x : ℕ). get_or l (a + k) 0 + 256 * x) (unle_from w l a (k + 1)))
+    (λ (h : length l ≤ a + k).
+    ap (λ (m : List ℕ). unle (take (suc w) m)) (drop_of_length-le l h)
+    ∙ sym (sum_past (suc w) l a k h))
+    (lt_or_le (a + k) (length l))
+
+-- a number in a list, read byte by byte
+pub unle-part : (w : ℕ) (l : List ℕ) (a : ℕ) → unle (part l a w) ≡ sum w l a 0
+unle-part w l a = let e : a ≡ a + 0 = omega arith in ap (λ (j : ℕ). unle (part l j w)) e ∙ unle_from w l a 0
 
 -- what std reads from two and from four bytes, where zeros stand for those that are not there
 pub unle_two : (l : List ℕ) → length l ≤ 2 → from_le_bytes w16 (filled 2 l) ≡ unle l

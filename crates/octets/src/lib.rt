@@ -30,23 +30,31 @@ pub fn be<const N: usize>(n: u64) -> [u8; N]
     b
 }
 
-// The N bytes from `at` on; bytes past the end count as 0.
+// The N bytes from `at` on; bytes past the end count as 0. Where all N are there their number is known beforehand, and the copy costs a load and
+// no call.
 pub fn cut<const N: usize>(s: &[u8], at: usize) -> [u8; N]
     ensures { result ≡ filled N (part s.now at N) }
 {
     let rest = &s[at.min(s.len())..];
-    let n = N.min(rest.len());
+    if let Some(whole) = rest.first_chunk::<N>() {
+        return *whole;
+    }
     let mut b = [0u8; N];
-    b[..n].copy_from_slice(&rest[..n]);
+    b[..rest.len()].copy_from_slice(rest);
     b
 }
 
 // The number that the two bytes from `at` on say, the low byte first; bytes past the end count as 0. This and the next stay two: their types
-// differ, a number of any count of bytes fits no type, and no public call has a `requires`.
+// differ, a number of any count of bytes fits no type, and no public call has a `requires`. Of two bytes each case is written out: it costs less
+// than to cut them out.
 pub fn load_le2(s: &[u8], at: usize) -> u16
     ensures { result ≡ unle (part s.now at 2) }
 {
-    u16::from_le_bytes(cut(s, at))
+    match &s[at.min(s.len())..] {
+        [low, high, ..] => u16::from_le_bytes([*low, *high]),
+        [low] => u16::from(*low),
+        [] => 0,
+    }
 }
 
 // The number that the four bytes from `at` on say, the low byte first; bytes past the end count as 0.

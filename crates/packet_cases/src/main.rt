@@ -104,9 +104,11 @@ const LONGEST: [Row; 6] = [
 
 // The label, and behind it what is told of the packet.
 fn say(rt: &impl Print, label: &str, packet: &[u8]) -> io::Result<()> {
-    let mut line = [0u8; 64];
-    let c = report::tell(packet, &mut line, Cursor { at: 0, full: false });
-    print!(rt; "{label}: ")?;
+    let mut line = [0u8; 128];
+    let start = Cursor { at: 0, full: false };
+    let a = text::add(&mut line, start, label.as_bytes());
+    let b = text::add(&mut line, a, b": ");
+    let c = report::tell(packet, &mut line, b);
     rt.write_all(&line[..c.at.min(line.len())])
 }
 

@@ -16,54 +16,54 @@ struct Form {
     room: Option<usize>,
 }
 
-// The form of a call by its word: `begin OWNID LEVEL NAME ROOM [LOOKUP]`, `open ROOM OPENED RM`, `m2 ROOM KG PASSWORD MSG` or `m4 MSG`, each behind a
+// The words of the calls: `begin OWNID LEVEL NAME ROOM [LOOKUP]`, `open ROOM OPENED RM`, `m2 ROOM KG PASSWORD MSG` and `m4 MSG`, each behind a
 // space, so that its first field is empty.
-fn find_form(word: &[u8]) -> Option<Form> {
-    match word {
-        b"begin" => Some(Form {
-            call: Call::Begin {
-                own: 2,
-                level: 3,
-                name: 4,
-                lookup: 6,
-            },
-            least: 6,
-            most: 7,
-            room: Some(5),
-        }),
-        b"open" => Some(Form {
-            call: Call::Open { opened: 3, rm: 4 },
-            least: 5,
-            most: 5,
-            room: Some(2),
-        }),
-        b"m2" => Some(Form {
-            call: Call::M2 {
-                kg: 3,
-                password: 4,
-                message: 5,
-            },
-            least: 6,
-            most: 6,
-            room: Some(2),
-        }),
-        b"m4" => Some(Form {
-            call: Call::M4 { message: 2 },
-            least: 3,
-            most: 3,
-            room: None,
-        }),
-        _ => None,
-    }
-}
+const WORDS: &[u8] = b"begin open m2 m4";
 
-// The form of a call, if it has as many fields as that asks for.
+// The forms of the calls, in the order of their words: the place of a word is its form's.
+static FORMS: [Form; 4] = [
+    Form {
+        call: Call::Begin {
+            own: 2,
+            level: 3,
+            name: 4,
+            lookup: 6,
+        },
+        least: 6,
+        most: 7,
+        room: Some(5),
+    },
+    Form {
+        call: Call::Open { opened: 3, rm: 4 },
+        least: 5,
+        most: 5,
+        room: Some(2),
+    },
+    Form {
+        call: Call::M2 {
+            kg: 3,
+            password: 4,
+            message: 5,
+        },
+        least: 6,
+        most: 6,
+        room: Some(2),
+    },
+    Form {
+        call: Call::M4 { message: 2 },
+        least: 3,
+        most: 3,
+        room: None,
+    },
+];
+
+// The form of a call by its word, if it has as many fields as that asks for.
 fn read_form(call: &[u8]) -> Option<Form> {
     if !pick_field(call, 0).is_empty() {
         return None;
     }
-    let form = find_form(pick_field(call, 1))?;
-    has_fields(call, form.least, form.most).then_some(form)
+    let form = FORMS.get(cases::look_up(WORDS, pick_field(call, 1)))?;
+    has_fields(call, form.least, form.most).then_some(*form)
 }
 
 // How much room a call is lent.

@@ -39,64 +39,158 @@ struct Form {
     most: usize,
 }
 
-fn make_form(case: Case, fields: usize) -> Form {
-    Form {
-        case,
-        least: fields,
-        most: fields,
-    }
-}
+// The words of the cases.
+const WORDS: &[u8] =
+    b"sha1 keys block opened rakp2 rakp4 hmac zeros hmac-zeros encrypt decrypt cbc-encrypt cbc-decrypt decline arrive \
+    read datagram rakp3 rakp1 once once-datagram open-request write wrap steps pieces arrivals script";
 
-fn make_open(case: Case, least: usize) -> Form {
+// The forms of the cases, in the order of their words: the place of a word, which `cases::look_up` promises, is its form's.
+static FORMS: [Form; 28] = [
     Form {
-        case,
-        least,
+        case: Case::Hash(Summing::Data),
+        least: 2,
+        most: 2,
+    },
+    Form {
+        case: Case::Keys,
+        least: 2,
+        most: 2,
+    },
+    Form {
+        case: Case::Block,
+        least: 2,
+        most: 2,
+    },
+    Form {
+        case: Case::Received(Received::Opened),
+        least: 2,
+        most: 2,
+    },
+    Form {
+        case: Case::Received(Received::Rakp2),
+        least: 2,
+        most: 2,
+    },
+    Form {
+        case: Case::Received(Received::Rakp4),
+        least: 2,
+        most: 2,
+    },
+    Form {
+        case: Case::Hash(Summing::Coded),
+        least: 3,
+        most: 3,
+    },
+    Form {
+        case: Case::Hash(Summing::Zeros),
+        least: 3,
+        most: 3,
+    },
+    Form {
+        case: Case::Hash(Summing::CodedZeros),
+        least: 3,
+        most: 3,
+    },
+    Form {
+        case: Case::Encrypt,
+        least: 3,
+        most: 3,
+    },
+    Form {
+        case: Case::Decrypt,
+        least: 3,
+        most: 3,
+    },
+    Form {
+        case: Case::CbcEncrypt,
+        least: 4,
+        most: 4,
+    },
+    Form {
+        case: Case::CbcDecrypt,
+        least: 4,
+        most: 4,
+    },
+    Form {
+        case: Case::Write(Writer::Decline),
+        least: 4,
+        most: 4,
+    },
+    Form {
+        case: Case::Arrive,
+        least: 4,
+        most: 4,
+    },
+    Form {
+        case: Case::Read,
+        least: 5,
+        most: 5,
+    },
+    Form {
+        case: Case::Datagram,
+        least: 5,
+        most: 5,
+    },
+    Form {
+        case: Case::Write(Writer::Rakp3),
+        least: 5,
+        most: 5,
+    },
+    Form {
+        case: Case::Write(Writer::Rakp1),
+        least: 7,
+        most: 7,
+    },
+    Form {
+        case: Case::Once,
+        least: 7,
+        most: 7,
+    },
+    Form {
+        case: Case::OnceDatagram,
+        least: 7,
+        most: 7,
+    },
+    Form {
+        case: Case::Write(Writer::OpenRequest),
+        least: 8,
+        most: 8,
+    },
+    Form {
+        case: Case::Write(Writer::Packet),
+        least: 10,
+        most: 10,
+    },
+    Form {
+        case: Case::Write(Writer::Datagram),
+        least: 10,
+        most: 10,
+    },
+    Form {
+        case: Case::Steps,
+        least: 10,
+        most: 11,
+    },
+    Form {
+        case: Case::Hash(Summing::Pieces),
+        least: 2,
         most: usize::MAX,
-    }
-}
+    },
+    Form {
+        case: Case::Arrivals,
+        least: 2,
+        most: usize::MAX,
+    },
+    Form {
+        case: Case::Script,
+        least: 1,
+        most: usize::MAX,
+    },
+];
 
-// The form of a case by its word.
-fn find_form(word: &[u8]) -> Option<Form> {
-    Some(match word {
-        b"sha1" => make_form(Case::Hash(Summing::Data), 2),
-        b"keys" => make_form(Case::Keys, 2),
-        b"block" => make_form(Case::Block, 2),
-        b"opened" => make_form(Case::Received(Received::Opened), 2),
-        b"rakp2" => make_form(Case::Received(Received::Rakp2), 2),
-        b"rakp4" => make_form(Case::Received(Received::Rakp4), 2),
-        b"hmac" => make_form(Case::Hash(Summing::Coded), 3),
-        b"zeros" => make_form(Case::Hash(Summing::Zeros), 3),
-        b"hmac-zeros" => make_form(Case::Hash(Summing::CodedZeros), 3),
-        b"encrypt" => make_form(Case::Encrypt, 3),
-        b"decrypt" => make_form(Case::Decrypt, 3),
-        b"cbc-encrypt" => make_form(Case::CbcEncrypt, 4),
-        b"cbc-decrypt" => make_form(Case::CbcDecrypt, 4),
-        b"decline" => make_form(Case::Write(Writer::Decline), 4),
-        b"arrive" => make_form(Case::Arrive, 4),
-        b"read" => make_form(Case::Read, 5),
-        b"datagram" => make_form(Case::Datagram, 5),
-        b"rakp3" => make_form(Case::Write(Writer::Rakp3), 5),
-        b"rakp1" => make_form(Case::Write(Writer::Rakp1), 7),
-        b"once" => make_form(Case::Once, 7),
-        b"once-datagram" => make_form(Case::OnceDatagram, 7),
-        b"open-request" => make_form(Case::Write(Writer::OpenRequest), 8),
-        b"write" => make_form(Case::Write(Writer::Packet), 10),
-        b"wrap" => make_form(Case::Write(Writer::Datagram), 10),
-        b"steps" => Form {
-            case: Case::Steps,
-            least: 10,
-            most: 11,
-        },
-        b"pieces" => make_open(Case::Hash(Summing::Pieces), 2),
-        b"arrivals" => make_open(Case::Arrivals, 2),
-        b"script" => make_open(Case::Script, 1),
-        _ => return None,
-    })
-}
-
-// The case of a line, if it has as many fields as that asks for.
+// The case of a line by its word, if it has as many fields as that asks for.
 fn find_case(line: &[u8]) -> Option<Case> {
-    let form = find_form(cases::pick_field(line, 0))?;
+    let form = FORMS.get(cases::look_up(WORDS, cases::pick_field(line, 0)))?;
     has_fields(line, form.least, form.most).then_some(form.case)
 }
 

@@ -1,5 +1,5 @@
 -- Runs of blocks, for any compression.
-use Prim.Native.Nat.{ℕ, zero, suc, ◌+◌, ◌*◌, ◌/◌, ◌≤◌}
+use Prim.Native.Nat.{ℕ, zero, suc, ◌+◌, ◌-◌, ◌*◌, ◌/◌, ◌%◌, ◌≤◌}
 use native.Mathlib.Omega.{arith}
 use mathlib.Core.Path.{◌≡◌, refl, sym, ◌∙◌, ap, ap₂}
 use mathlib.Core.List.{List, ◌++◌}
@@ -26,6 +26,19 @@ module _ {C : Type 0} (compress : C → List ℕ → C) where
       let lj : j * 64 ≤ length (drop 64 m) = simp length-drop (omega arith) in
       ap₂ (λ (x y : List ℕ). runs compress j (compress h x) y) (take-append-le 64 m s l₆₄) (drop-append-le 64 m s l₆₄)
       ∙ runs_front j (compress h (take 64 m)) (drop 64 m) s lj
+
+  -- one block more, where it lies
+  pub runs_next : (at : ℕ) (h v u : C) (s : List ℕ) → at % 64 ≡ 0 → v ≡ runs compress (at / 64) h s
+      → u ≡ compress v (take (at + 64 - at) (drop at s)) → u ≡ runs compress ((at + 64) / 64) h s
+  unfolding runs
+  runs_next at h v u s z e p =
+      let e₁ : at + 64 - at ≡ 64 = omega arith in
+      let e₂ : at / 64 * 64 ≡ at = omega arith in
+      let e₃ : (at + 64) / 64 ≡ at / 64 + 1 = omega arith in
+      p ∙ ap₂ (λ (n : ℕ) (x : C). compress x (take n (drop at s))) e₁ e
+      ∙ ap (λ (n : ℕ). compress (runs compress (at / 64) h s) (take 64 (drop n s))) (sym e₂)
+      ∙ sym (runs-add (at / 64) 1 h s)
+      ∙ ap (λ (n : ℕ). runs compress n h s) (sym e₃)
 
   -- one block more, the front of what is left
   pub runs_chunk : (v u : C) (r x t : List ℕ) → r ≡ x ++ t → length x ≡ 64 → u ≡ compress v x

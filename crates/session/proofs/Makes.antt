@@ -15,6 +15,7 @@ use Rattle.refusal.specs.declared.Refusal.TheVariants.{Declined}
 use Rattle.refusal.proofs.Order.{refuse≢accept, accept_inj}
 use Rattle.messages.specs.Answers.{told_written}
 use Rattle.messages.specs.declared.open_session.OpenSessionRequest.{OpenSessionRequest}
+use Rattle.messages.specs.declared.open_session.OpenSessionResponse.{OpenSessionResponse}
 use Rattle.messages.specs.declared.rakp_1.RakpMessage1.{RakpMessage1}
 use Rattle.messages.specs.declared.rakp_3.RakpMessage3.{RakpMessage3}
 use Rattle.octets.specs.Place.{begun}
@@ -23,9 +24,10 @@ use Rattle.sha1_hmac.specs.Answers.{HashedPromise}
 use Rattle.sha1_hmac.specs.View.{hashed_of}
 use Rattle.sha1_hmac.specs.declared.Hashed.{Hashed}
 use Rattle.running.proofs.Promised.{yes}
+use Rattle.sha1_hmac.proofs.Laws.{mac_length}
 use Rattle.keys.specs.Chosen.{absent, key_of}
 use Rattle.messages.specs.Name.{name_of}
-use Rattle.messages.specs.OpenSession.{open_request}
+use Rattle.messages.specs.OpenSession.{open_request, response_numbers}
 use Rattle.messages.specs.Promises.{WritePromise}
 use Rattle.messages.specs.Rakp.{message1, message3, declined3, message4, fields2, fields4}
 use Rattle.refusal.specs.declared.Refusal.{Refusal}
@@ -35,9 +37,11 @@ use Rattle.messages.specs.declared.rakp_4.RakpMessage4.{RakpMessage4}
 use Rattle.messages.proofs.Writing.{wrote, size1}
 use Rattle.messages.proofs.Answered.{found_2, found_4}
 use Rattle.session.specs.Constants.{code_size, request_size, one_size, three_size}
-use Rattle.session.specs.Record.{closed}
-use Rattle.session.specs.Steps.{Made, heard_two, three_of}
+use Rattle.session.specs.Record.{closed, begun_of, begun_with, answered, keyed}
+use Rattle.session.specs.Steps.{Made, heard_two, request_of, made_begin, one_to, made_open, three_of, made_two, sik_two, code_three}
 use Rattle.session.specs.Promise.{StepPromise}
+use Rattle.session.specs.declared.Asked.{Asked}
+use Rattle.session.specs.declared.Begun.{Begun}
 use Rattle.session.specs.declared.Record.{Record}
 use Rattle.session.proofs.Stages.{step_made}
 use Rattle.session.proofs.Chains.{two_found}
@@ -106,6 +110,38 @@ three_length m code n = simp length-append (omega arith)
 pub declined_length : (m : RakpMessage3) → length (declined3 m) ≡ 8
 unfolding declined3
 declined_length m = refl
+
+-- Begin: the request, and the record
+pub begin_made : (asked : Asked) (u : Username) (out : List ℕ) (b : Begun) (st : Record) (w : Result ℕ Refusal) (x : List ℕ) → b ≡ begun_of asked u
+    → st ≡ begun_with b → WritePromise (request_of asked) out w x → request_size ≤ length out
+    → StepPromise (accept (made_begin asked u)) closed out (record { state = st; answer = Ok tt; len = request_size }) x
+unfolding made_begin request_of open_request
+begin_made asked u out b st w x e f p h =
+    step_made (made_begin asked u) closed out st request_size x (f ∙ ap begun_with e) refl (wrote _ out w x p h).1
+
+-- the open response: message 1, and the record
+pub open_made : (s : Record) (r : OpenSessionResponse) (rm out : List ℕ) (st : Record) (n : ℕ) (w : Result ℕ Refusal) (x : List ℕ)
+    → n ≡ s.begun.username.len → st ≡ answered s (response_numbers r) rm
+    → WritePromise (message1 (one_to r.system s rm)) out w x
+    → length rm ≡ 16 → length s.begun.username.bytes ≡ 16 → s.begun.username.len ≤ 16 → one_size s.begun.username.len ≤ length out
+    → StepPromise (accept (made_open s rm (response_numbers r))) s out (record { state = st; answer = Ok tt; len = one_size n }) x
+unfolding made_open response_numbers
+open_made s r rm out st n w x q e p k b l h =
+    let z = one_length (one_to r.system s rm) k b l in
+    step_made (made_open s rm (response_numbers r)) s out st (one_size n) x e (ap one_size q ∙ sym z) (wrote _ out w x p (omega arith)).1
+
+-- message 2: message 3, and the record
+pub two_made : (s : Record) (kg password : List ℕ) (f : RakpMessage2) (code sik out : List ℕ) (st : Record) (w : Result ℕ Refusal) (x : List ℕ)
+    → code ≡ code_three s password f → sik ≡ sik_two s kg password f → st ≡ keyed s f.guid sik
+    → WritePromise (message3 (three_of s) code) out w x → three_size ≤ length out
+    → StepPromise (accept (made_two s kg password f)) s out (record { state = st; answer = Ok tt; len = three_size }) x
+unfolding made_two code_three
+two_made s kg password f code sik out st w x a b e p h =
+    let n : length code ≡ code_size = ap length a ∙ mac_length password _ in
+    let z = three_length (three_of s) code n in
+    step_made (made_two s kg password f) s out st three_size x (e ∙ ap (keyed s f.guid) b)
+    (sym z ∙ ap (λ (c : List ℕ). length (message3 (three_of s) c)) a)
+    ((wrote _ out w x p (omega arith)).1 ∙ ap (λ (c : List ℕ). begun (message3 (three_of s) c) out) a)
 
 -- the code's place lies in the message
 pub code_inside : (s : Record) (m : List ℕ) (f : RakpMessage2) → heard_two s m ≡ accept f → f.code.at ≤ length m

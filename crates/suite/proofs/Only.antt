@@ -13,6 +13,7 @@ use Rattle.suite.proofs.PayloadTypeTryFromU8.try_from.Reads as try-from-reads
 use Rattle.suite.proofs.code_len.Reads as code-len-reads
 use Rattle.suite.proofs.carries_code.Reads as carries-code-reads
 use Rattle.suite.proofs.encrypts.Reads as encrypts-reads
+use Rattle.suite.proofs.make_bit.Reads as make-bit-reads
 use Rattle.suite.proofs.find_longest_packet.Reads as find-longest-packet-reads
 use Rattle.suite.proofs.make_code.Reads as make-code-reads
 
@@ -53,6 +54,9 @@ carries_code_only κs args a b s t p q = p ∙ sym q
 
 pub encrypts_only : (κs : _) (args : _) (a b : _) (s t : _) → encrypts-reads.Post κs args a s → encrypts-reads.Post κs args b t → a ≡ b
 encrypts_only κs args a b s t p q = p ∙ sym q
+
+pub make_bit_only : (κs : _) (args : _) (a b : _) (s t : _) → make-bit-reads.Post κs args a s → make-bit-reads.Post κs args b t → a ≡ b
+make_bit_only κs args a b s t p q = p ∙ sym q
 
 pub find_longest_packet_only : (κs : _) (args : _) (a b : _) (s t : _)
     → find-longest-packet-reads.Post κs args a s → find-longest-packet-reads.Post κs args b t → a ≡ b

@@ -3,6 +3,7 @@
 #![tactic(auto)]
 
 ghost use Rattle.std.specs.Prelude.{◌≡◌, ◌<◌};
+ghost use Rattle.framing.specs.Packet.{bit};
 ghost use Rattle.framing.specs.Read.{longest_packet};
 ghost use Rattle.suite.specs.Types.{type_number, TypeOf, code_length, encrypts, carries_code};
 ghost use Rattle.suite.specs.Session.{suite_of};
@@ -111,6 +112,13 @@ pub fn find_longest_packet(s: SubState) -> usize
     ensures { result ≡ longest_packet (suite_of s) }
 {
     65804 + code_len(s.integrity)
+}
+
+// The bit for a yes or a no in a packet's second byte.
+pub fn make_bit(b: bool) -> u8
+    ensures { result ≡ bit b }
+{
+    u8::from(b)
 }
 
 // How many bytes the hash computes.

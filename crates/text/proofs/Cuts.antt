@@ -56,7 +56,7 @@ behind s a m e = ap (λ (n : ℕ). take n (drop m s)) (sym (length-drop m s)) �
         drop_of_length-le s k ∙ sym (drop_of_length-le s h)
 
 -- there is at least one field
-cut_some : (c : ℕ) (l : List ℕ) → 0 < length (cut c l)
+pub cut_some : (c : ℕ) (l : List ℕ) → 0 < length (cut c l)
 cut_some c [] = omega arith
 cut_some c (x ∷ l) = by_end (eqb x c) (cut c l)
   where

@@ -96,8 +96,8 @@ fn check_room(s: SubState, n: usize, before: usize, room: usize) -> Result<usize
 fn make_header(s: SubState, m: Message, n: usize) -> [u8; 12]
     ensures { result ≡ header_of (suite_of s) (message_of m.entry) n }
 {
-    let flags = 128 * u8::from(suite::encrypts(s.confidentiality))
-        + 64 * u8::from(suite::carries_code(s.integrity))
+    let flags = 128 * suite::make_bit(suite::encrypts(s.confidentiality))
+        + 64 * suite::make_bit(suite::carries_code(s.integrity))
         + m.ty.number();
     let d = octets::le::<4>(u64::from(m.id));
     let q = octets::le::<4>(u64::from(m.seq));

@@ -13,4 +13,5 @@ unwrap-requires c =
 pub returns : goal.returns
 returns c =
     let l = declined_length (three_of c.args.state) in
-    declined _ c.args.out.now _ _ c.decline.ensures (omega arith) _ c.args.state _ c.unwrap.ensures refl c.make_closed.ensures
+    let p = declined _ c.args.out.now _ _ c.decline.ensures (omega arith) _ c.args.state _ c.unwrap.ensures refl c.make_closed.ensures in
+    record { answer = p.answer; next = p.next; len = omega (arith, p.len); buffer = p.buffer }

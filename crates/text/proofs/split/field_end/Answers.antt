@@ -1,5 +1,5 @@
 -- `field_end` keeps its promise: the first separator ends the field, or the line's end does.
-use Rattle.std.proofs.Common.{rules, tests, ◌≡◌, ◌∙◌, ap, ◌+◌, length, drop, take, ℕ, ◌-◌, ◌<◌, ◌≤◌, Bool, nat_eq, List}
+use Rattle.std.proofs.Common.{rules, tests, ◌≡◌, ◌∙◌, ap, ◌+◌, length, drop, take, ℕ, ◌-◌, nat_eq, List}
 use Rattle.std.specs.List.{position}
 use Rattle.std.proofs.lemmas.Iterator.Search.{position_from_yields_List}
 use Rattle.std.proofs.lemmas.Iterator.{YieldsList-from_slice}

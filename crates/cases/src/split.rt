@@ -50,8 +50,8 @@ pub fn pick_field(line: &[u8], k: usize) -> &[u8]
 pub fn look_up(words: &[u8], s: &[u8]) -> usize
     ensures { result ≡ place_of s.now (cut 0x20 words.now) }
 {
-    match words.split(|b| *b == b' ').position(|w| w == s) {
-        Some(k) => k,
-        None => text::fields(words, b' '),
-    }
+    words
+        .split(|b| *b == b' ')
+        .position(|w| w == s)
+        .unwrap_or_else(|| text::fields(words, b' '))
 }

@@ -44,11 +44,11 @@ cut_filled n k m a l x e f g =
     ap₂ ◌++◌ y (drop-replicate m n 0 ∙ ap (λ (j : ℕ). replicate {A = ℕ} j 0) z)
 
 -- what is cut out whole
-pub cut_whole : (n k a : ℕ) (l x : List ℕ) → k ≡ min a (length l) → n ≤ length (take (length l - k) (drop k l))
-    → x ≡ take n (take (length l - k) (drop k l)) → x ≡ filled n (part l a n)
-cut_whole n k a l x e h g =
+pub cut_whole : (n k a : ℕ) (l : List ℕ) → k ≡ min a (length l) → (x : List ℕ) → n ≤ length l - k → x ≡ take n (take (length l - k) (drop k l))
+    → x ≡ filled n (part l a n)
+cut_whole n k a l e x h g =
     let p : take (length l - k) (drop k l) ≡ drop a l = take_rest l k ∙ ap (λ (j : ℕ). drop j l) e ∙ drop_min a l in
-    let y : n ≤ length (drop a l) = omega (arith, ap length p) in
+    let y : n ≤ length (drop a l) = omega (arith, e, length-drop a l) in
     g ∙ ap (take n) p ∙ sym (filled_long n (part l a n) (omega (arith, length-take-le n (drop a l) y)))
 
 -- what is put at the start of zeros

@@ -30,8 +30,7 @@ pub fn be<const N: usize>(n: u64) -> [u8; N]
     b
 }
 
-// The N bytes from `at` on; bytes past the end count as 0. Where all N are there their number is known beforehand, and the copy costs a load and
-// no call.
+// The N bytes from `at` on; bytes past the end count as 0. Where all N are there they are copied at once: a copy whose length is known costs no call.
 pub fn cut<const N: usize>(s: &[u8], at: usize) -> [u8; N]
     ensures { result ≡ filled N (part s.now at N) }
 {

@@ -14,7 +14,7 @@ pub fn field_end(line: &[u8], from: usize, separator: u8) -> usize
         .unwrap_or(rest.len())
 }
 
-// How many fields the line has: one more than separators. Counted by hand: std's `filter` and `count` cost twice the instructions a character.
+// How many fields the line has: one more than separators. Counted by hand: std's `filter` and `count` take some three instructions more a character.
 pub fn fields(line: &[u8], separator: u8) -> usize
     ensures { result ≡ length (cut separator line.now) }
 {

@@ -1,5 +1,5 @@
 -- `cut` keeps its promise: the whole part, or what there is of it at the start of zeros.
-use Rattle.std.proofs.Common.{◌≡◌, ◌-◌, ◌++◌, ◌≤◌, List, ℕ, arith, drop, length, min, replicate, take}
+use Rattle.std.proofs.Common.{◌≡◌, ◌-◌, ◌++◌, List, ℕ, arith, drop, length, min, replicate, take}
 use Rattle.std.proofs.lemmas.Grind.{common_steps}
 use Rattle.octets.specs.Place.{part, filled}
 use Rattle.octets.proofs.Filled.{cut_filled, cut_whole}
@@ -10,16 +10,11 @@ over_zeros : (n k a : ℕ) (l : List ℕ) → k ≡ min a (length l) → (m : �
     → x ++ drop m (replicate {A = ℕ} n 0) ≡ filled n (part l a n)
 over_zeros n k a l e m x f g = cut_filled n k m a l x e (grind (arith, common_steps, f)) g
 
--- as many as are asked for are the whole part
-whole_part : (n k a : ℕ) (l : List ℕ) → k ≡ min a (length l) → (x : List ℕ) → n ≤ length l - k → x ≡ take n (take (length l - k) (drop k l))
-    → x ≡ filled n (part l a n)
-whole_part n k a l e x h g = cut_whole n k a l x e (grind (arith, common_steps, h)) g
-
 pub returns-in-Some : goal.returns-in-Some
 returns-in-Some g c =
     let a = c.args in
     let w = c.in-Some.ensures.cases in
-    let e = whole_part g.row.N _ a.at a.s.now c.min.ensures c.in-Some.whole.now in
+    let e = cut_whole g.row.N _ a.at a.s.now c.min.ensures c.in-Some.whole.now in
     grind (arith, common_steps, e, w.enough, w.same)
 
 pub returns : goal.returns
